@@ -1,0 +1,273 @@
+// SPDX-License-Identifier: Apache-2.0 AND BSD-3-Clause
+// Guest memory: one lent slice, and the lent table of regions that maps guest addresses to it. The only functions that touch it.
+//
+// An access at addr + off works if all its bytes are in memory, also where they lie in several regions; otherwise it fails as a
+// whole and nothing is written. Each function has a fast way, where one row holds all the bytes, and leaves everything else to a
+// function of its own that goes byte by byte.
+use regions::Place;
+use regions::Stretch;
+ghost use mathlib.Core.Path.{_≡_};
+ghost use mathlib.Core.Bool.{true};
+ghost use Prim.Native.Nat.{_+_, _≤_, _<_};
+ghost use lib.ListN.{length};
+ghost use lib.Seq.{sets};
+ghost use Rattle.wire.specs.Number.{number, bytes};
+ghost use Rattle.wire.specs.Part.{part};
+ghost use Rattle.regions.specs.Table.{spot};
+ghost use Rattle.regions.specs.Spots.{covered, spots};
+ghost use Rattle.memory.specs.Cells.{cell, fetch, store1, store};
+ghost use Rattle.memory.specs.Access.{readable, writable, Wrote, read2Of, read16Of, fieldsOf, pairBytes, fieldBytes};
+
+// What a read of 2 bytes finds.
+pub enum Got2 {
+    Value(u16),
+    Fault2,
+}
+
+// What a read of 16 bytes finds: numbers of 8, 4, 2 and 2 bytes side by side, the shape of a descriptor, split or packed.
+pub enum Got16 {
+    Fields(u64, u32, u16, u16),
+    Fault16,
+}
+
+// Whether each of the n bytes at addr + off is in memory.
+fn in_memory(regions: &[u64], size: usize, addr: u64, off: u32, n: u32) -> bool
+    ensures { λ r. ⌜ r ≡ covered (now (regions .entry)) size (addr + off) n ⌝ }
+{
+    match regions::locate(regions, size, addr, off, n) {
+        Place::At(_) => true,
+        Place::Nowhere => in_rows(regions, size, addr, off, n),
+    }
+}
+
+fn in_rows(regions: &[u64], size: usize, addr: u64, off: u32, n: u32) -> bool
+    ensures { λ r. ⌜ r ≡ covered (now (regions .entry)) size (addr + off) n ⌝ }
+{
+    if n == 0 {
+        return true;
+    }
+    if u64::MAX - addr < off as u64 {
+        return false;
+    }
+    regions::covers(regions, size, addr + off as u64, n as u64)
+}
+
+// Whether n bytes at addr + off can be read, and whether they can be written.
+pub fn can_read(regions: &[u64], size: usize, addr: u64, off: u32, n: u32) -> bool
+    ensures { λ r. ⌜ r ≡ readable (now (regions .entry)) size (addr + off) n ⌝ }
+{
+    in_memory(regions, size, addr, off, n)
+}
+
+pub fn can_write(regions: &[u64], size: usize, addr: u64, off: u32, n: u32) -> bool
+    ensures { λ r. ⌜ r ≡ writable (now (regions .entry)) size (addr + off) n ⌝ }
+{
+    in_memory(regions, size, addr, off, n)
+}
+
+// ---- byte by byte: for an access that no row holds whole
+
+// The byte at guest address a; 0 where there is none.
+fn byte_at(regions: &[u64], mem: &[u8], a: u64) -> u8
+    ensures { λ r. ⌜ r ≡ cell (now (mem .entry)) (spot (now (regions .entry)) (length (now (mem .entry))) a) ⌝ }
+{
+    match regions::find(regions, mem.len(), a) {
+        Stretch::Run(i, _) => mem[i],
+        Stretch::Nothing => 0,
+    }
+}
+
+// Stores a byte at guest address a, if there is one.
+fn store_byte(regions: &[u64], mem: &mut [u8], a: u64, b: u8)
+    ensures { λ _. ⌜ now (mem .exit) ≡ store1 (now (mem .entry)) (spot (now (regions .entry)) (length (now (mem .entry))) a) b ⌝ }
+{
+    match regions::find(regions, mem.len(), a) {
+        Stretch::Run(i, _) => {
+            mem[i] = b;
+        }
+        Stretch::Nothing => {}
+    }
+}
+
+// Fills out with the bytes from guest address a on, which are all in memory.
+fn gather(regions: &[u64], mem: &[u8], a: u64, out: &mut [u8])
+    requires { ⌜ covered (now regions) (length (now mem)) a (length (now out)) ≡ true ⌝ }
+    ensures { λ _. ⌜ now (out .exit) ≡ fetch (now (mem .entry)) (spots (now (regions .entry)) (length (now (mem .entry))) a (length (now (out .entry)))) ⌝ }
+{
+    let mut k: usize = 0;
+    while k < out.len() {
+        out[k] = byte_at(regions, mem, a + k as u64);
+        k += 1;
+    }
+}
+
+// Stores src from guest address a on, where all its bytes are in memory.
+fn scatter(regions: &[u64], mem: &mut [u8], a: u64, src: &[u8])
+    requires { ⌜ covered (now regions) (length (now mem)) a (length (now src)) ≡ true ⌝ }
+    ensures { λ _. ⌜ now (mem .exit) ≡ store (now (mem .entry)) (spots (now (regions .entry)) (length (now (mem .entry))) a (length (now (src .entry)))) (now (src .entry)) ⌝ }
+{
+    let mut k: usize = 0;
+    while k < src.len() {
+        store_byte(regions, mem, a + k as u64, src[k]);
+        k += 1;
+    }
+}
+
+// A buffer that is lent has a known length: so the bytes are gathered into one, and taken out of it, in a function of their own.
+fn read2_into(regions: &[u64], mem: &[u8], a: u64, out: &mut [u8]) -> u16
+    requires { ⌜ (covered (now regions) (length (now mem)) a 2 ≡ true) × (length (now out) ≡ 2) ⌝ }
+    ensures { λ r. ⌜ r ≡ number (fetch (now (mem .entry)) (spots (now (regions .entry)) (length (now (mem .entry))) a 2)) ⌝ }
+{
+    gather(regions, mem, a, out);
+    wire::get2(out, 0)
+}
+
+fn read2_across(regions: &[u64], mem: &[u8], addr: u64, off: u32) -> Got2
+    ensures { λ r. ⌜ r ≡ read2Of (now (regions .entry)) (now (mem .entry)) (addr + off) ⌝ }
+{
+    if !can_read(regions, mem.len(), addr, off, 2) {
+        return Got2::Fault2;
+    }
+    let mut out = [0u8; 2];
+    Got2::Value(read2_into(regions, mem, addr + off as u64, &mut out))
+}
+
+pub fn read2(regions: &[u64], mem: &[u8], addr: u64, off: u32) -> Got2
+    ensures { λ r. ⌜ r ≡ read2Of (now (regions .entry)) (now (mem .entry)) (addr + off) ⌝ }
+{
+    match regions::locate(regions, mem.len(), addr, off, 2) {
+        Place::At(i) => Got2::Value(wire::get2(mem, i)),
+        Place::Nowhere => read2_across(regions, mem, addr, off),
+    }
+}
+
+fn fields_at(s: &[u8], i: usize) -> Got16
+    requires { ⌜ i + 16 ≤ length (now s) ⌝ }
+    ensures { λ r. ⌜ r ≡ fieldsOf (part (now (s .entry)) i 16) ⌝ }
+{
+    let a = wire::get8(s, i);
+    let b = wire::get4(s, i + 8);
+    let c = wire::get2(s, i + 12);
+    let d = wire::get2(s, i + 14);
+    Got16::Fields(a, b, c, d)
+}
+
+fn read16_into(regions: &[u64], mem: &[u8], a: u64, out: &mut [u8]) -> Got16
+    requires { ⌜ (covered (now regions) (length (now mem)) a 16 ≡ true) × (length (now out) ≡ 16) ⌝ }
+    ensures { λ r. ⌜ r ≡ fieldsOf (fetch (now (mem .entry)) (spots (now (regions .entry)) (length (now (mem .entry))) a 16)) ⌝ }
+{
+    gather(regions, mem, a, out);
+    fields_at(out, 0)
+}
+
+fn read16_across(regions: &[u64], mem: &[u8], addr: u64, off: u32) -> Got16
+    ensures { λ r. ⌜ r ≡ read16Of (now (regions .entry)) (now (mem .entry)) (addr + off) ⌝ }
+{
+    if !can_read(regions, mem.len(), addr, off, 16) {
+        return Got16::Fault16;
+    }
+    let mut out = [0u8; 16];
+    read16_into(regions, mem, addr + off as u64, &mut out)
+}
+
+pub fn read16(regions: &[u64], mem: &[u8], addr: u64, off: u32) -> Got16
+    ensures { λ r. ⌜ r ≡ read16Of (now (regions .entry)) (now (mem .entry)) (addr + off) ⌝ }
+{
+    match regions::locate(regions, mem.len(), addr, off, 16) {
+        Place::At(i) => fields_at(mem, i),
+        Place::Nowhere => read16_across(regions, mem, addr, off),
+    }
+}
+
+// Nothing is stored unless every byte has a place.
+fn write_across(regions: &[u64], mem: &mut [u8], addr: u64, off: u32, src: &[u8]) -> bool
+    requires { ⌜ (1 ≤ length (now src)) × (length (now src) ≤ 16) ⌝ }
+    ensures { λ r. ⌜ Wrote (now (regions .entry)) (now (mem .entry)) (addr + off) (now (src .entry)) r (now (mem .exit)) ⌝ }
+{
+    if !can_write(regions, mem.len(), addr, off, src.len() as u32) {
+        return false;
+    }
+    scatter(regions, mem, addr + off as u64, src);
+    true
+}
+
+fn write2_across(regions: &[u64], mem: &mut [u8], addr: u64, off: u32, v: u16) -> bool
+    ensures { λ r. ⌜ Wrote (now (regions .entry)) (now (mem .entry)) (addr + off) (bytes 2 v) r (now (mem .exit)) ⌝ }
+{
+    let src = [(v % 256) as u8, (v / 256 % 256) as u8];
+    write_across(regions, mem, addr, off, &src)
+}
+
+pub fn write2(regions: &[u64], mem: &mut [u8], addr: u64, off: u32, v: u16) -> bool
+    ensures { λ r. ⌜ Wrote (now (regions .entry)) (now (mem .entry)) (addr + off) (bytes 2 v) r (now (mem .exit)) ⌝ }
+{
+    match regions::locate(regions, mem.len(), addr, off, 2) {
+        Place::At(i) => {
+            wire::put2(mem, i, v);
+            true
+        }
+        Place::Nowhere => write2_across(regions, mem, addr, off, v),
+    }
+}
+
+fn put_pair(s: &mut [u8], i: usize, x: u32, y: u32)
+    requires { ⌜ i + 8 ≤ length (now s) ⌝ }
+    ensures { λ _. ⌜ now (s .exit) ≡ sets (now (s .entry)) i (pairBytes x y) ⌝ }
+{
+    wire::put4(s, i, x);
+    wire::put4(s, i + 4, y);
+}
+
+fn write8_from(regions: &[u64], mem: &mut [u8], addr: u64, off: u32, x: u32, y: u32, src: &mut [u8]) -> bool
+    requires { ⌜ length (now src) ≡ 8 ⌝ }
+    ensures { λ r. ⌜ Wrote (now (regions .entry)) (now (mem .entry)) (addr + off) (pairBytes x y) r (now (mem .exit)) ⌝ }
+{
+    put_pair(src, 0, x, y);
+    write_across(regions, mem, addr, off, src)
+}
+
+fn write8_across(regions: &[u64], mem: &mut [u8], addr: u64, off: u32, x: u32, y: u32) -> bool
+    ensures { λ r. ⌜ Wrote (now (regions .entry)) (now (mem .entry)) (addr + off) (pairBytes x y) r (now (mem .exit)) ⌝ }
+{
+    let mut src = [0u8; 8];
+    write8_from(regions, mem, addr, off, x, y, &mut src)
+}
+
+// Two numbers of 4 bytes, side by side.
+pub fn write8(regions: &[u64], mem: &mut [u8], addr: u64, off: u32, x: u32, y: u32) -> bool
+    ensures { λ r. ⌜ Wrote (now (regions .entry)) (now (mem .entry)) (addr + off) (pairBytes x y) r (now (mem .exit)) ⌝ }
+{
+    match regions::locate(regions, mem.len(), addr, off, 8) {
+        Place::At(i) => {
+            put_pair(mem, i, x, y);
+            true
+        }
+        Place::Nowhere => write8_across(regions, mem, addr, off, x, y),
+    }
+}
+
+fn put_fields(s: &mut [u8], i: usize, a: u64, b: u32, c: u16, d: u16)
+    requires { ⌜ i + 16 ≤ length (now s) ⌝ }
+    ensures { λ _. ⌜ now (s .exit) ≡ sets (now (s .entry)) i (fieldBytes a b c d) ⌝ }
+{
+    wire::put8(s, i, a);
+    wire::put4(s, i + 8, b);
+    wire::put2(s, i + 12, c);
+    wire::put2(s, i + 14, d);
+}
+
+fn write16_from(regions: &[u64], mem: &mut [u8], addr: u64, off: u32, a: u64, b: u32, c: u16, d: u16, src: &mut [u8]) -> bool
+    requires { ⌜ length (now src) ≡ 16 ⌝ }
+    ensures { λ r. ⌜ Wrote (now (regions .entry)) (now (mem .entry)) (addr + off) (fieldBytes a b c d) r (now (mem .exit)) ⌝ }
+{
+    put_fields(src, 0, a, b, c, d);
+    write_across(regions, mem, addr, off, src)
+}
+
+// Numbers of 8, 4, 2 and 2 bytes, side by side. No device writes descriptors: this lays one for a driver, so it has no fast way.
+pub fn write16(regions: &[u64], mem: &mut [u8], addr: u64, off: u32, a: u64, b: u32, c: u16, d: u16) -> bool
+    ensures { λ r. ⌜ Wrote (now (regions .entry)) (now (mem .entry)) (addr + off) (fieldBytes a b c d) r (now (mem .exit)) ⌝ }
+{
+    let mut src = [0u8; 16];
+    write16_from(regions, mem, addr, off, a, b, c, d, &mut src)
+}
