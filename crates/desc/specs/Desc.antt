@@ -62,8 +62,11 @@ join p q r s = cc
 -- and sixteen bytes are those of their descriptor
 pub descBytes-descOf : (bs : List ℕ) → length bs ≡ 16 → Bytes bs → descBytes (descOf bs) ≡ bs
 descBytes-descOf bs e h =
+    let low : part bs 12 4 ≡ part bs 12 2 ++ part bs 14 2 = part-add bs 12 2 2 in
+    let high : part bs 8 8 ≡ part bs 8 4 ++ part bs 12 4 = part-add bs 8 4 4 in
+    let all : part bs 0 16 ≡ part bs 0 8 ++ part bs 8 8 = part-add bs 0 8 8 in
     join (bytes-part bs 0 8 h (omega arith)) (bytes-part bs 8 4 h (omega arith)) (bytes-part bs 12 2 h (omega arith)) (bytes-part bs 14 2 h (omega arith))
-    ∙ sym (sym (part-all bs 16 e) ∙ part-add bs 0 8 8 ∙ ap (λ (x : List ℕ). part bs 0 8 ++ x) (part-add bs 8 4 4 ∙ ap (λ (x : List ℕ). part bs 8 4 ++ x) (part-add bs 12 2 2)))
+    ∙ cc (low, high, all, part-all bs 16 e)
 
 -- ---- in guest memory
 abbrev pub onFields : Got16 → Found
@@ -71,7 +74,7 @@ onFields (Fields a l f n) = Desc (descriptor a l f n)
 onFields Fault16 = NoDesc
 
 -- the descriptor in the 16 bytes at guest address a
-pub descAt : Table → List ℕ → ℕ → Found
+unfoldable pub descAt : Table → List ℕ → ℕ → Found
 descAt t m a = onFields (read16Of t m a)
 
 module _ (t : Table) (m : List ℕ) (a : ℕ) where

@@ -43,11 +43,11 @@ use Rattle.memory.specs.declared.Got16.the-variants.{Fields, Fault16}
 -- ---- what contracts cite
 
 -- the n bytes from guest address a on can all be read
-pub readable : Table → ℕ → ℕ → ℕ → Bool
+unfoldable pub readable : Table → ℕ → ℕ → ℕ → Bool
 readable t size a n = covered t size a n
 
 -- they can all be written
-pub writable : Table → ℕ → ℕ → ℕ → Bool
+unfoldable pub writable : Table → ℕ → ℕ → ℕ → Bool
 writable t size a n = covered t size a n
 
 -- the n bytes from guest address a on
@@ -64,14 +64,14 @@ pub record Wrote (t : Table) (m : List ℕ) (a : ℕ) (bs : List ℕ) (r : Bool)
   pub mem : m′ ≡ after t m a bs
 
 -- a read of 2 bytes, as one number
-pub read2Of : Table → List ℕ → ℕ → Got2
+unfoldable pub read2Of : Table → List ℕ → ℕ → Got2
 read2Of t m a = pick (readable t (length m) a 2) (Value (number (bytesAt t m a 2))) Fault2
 
 -- numbers of 8, 4, 2 and 2 bytes side by side
 abbrev pub fieldsOf : List ℕ → Got16
 fieldsOf bs = Fields (number (part bs 0 8)) (number (part bs 8 4)) (number (part bs 12 2)) (number (part bs 14 2))
 
-pub read16Of : Table → List ℕ → ℕ → Got16
+unfoldable pub read16Of : Table → List ℕ → ℕ → Got16
 read16Of t m a = pick (readable t (length m) a 16) (fieldsOf (bytesAt t m a 16)) Fault16
 
 -- the bytes of two numbers of 4 bytes, and of numbers of 8, 4, 2 and 2 bytes, side by side

@@ -20,7 +20,7 @@ use Rattle.regions.specs.declared.Side as side
 use Rattle.regions.specs.declared.Side.the-variants.{All, Away, Split}
 
 -- a place for each of the n bytes from guest address a on
-pub spots : Table → ℕ → ℕ → ℕ → List Place
+unfoldable pub spots : Table → ℕ → ℕ → ℕ → List Place
 spots t size a zero = []
 spots t size a (suc n) = spot t size a ∷ spots t size (suc a) n
 
@@ -34,7 +34,7 @@ whole [] = true
 whole (p ∷ ps) = within p (λ _. whole ps) false
 
 -- the n bytes from guest address a on are all in memory
-pub covered : Table → ℕ → ℕ → ℕ → Bool
+unfoldable pub covered : Table → ℕ → ℕ → ℕ → Bool
 covered t size a n = whole (spots t size a n)
 
 pub covered-is : (t : Table) (size a n : ℕ) → covered t size a n ≡ whole (spots t size a n)

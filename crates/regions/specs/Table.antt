@@ -12,7 +12,6 @@ use lib.ListN.{length, getD, drop, length-drop}
 use lib.Seq.{drop-cons}
 use lib.Dec.{ltb, leb}
 use borrow.Author.Tests.{leb-true, ltb-true, le-leb, lt-leb, lt-ltb, le-ltb}
-use Rattle.wire.specs.Part.{Apart}
 use Rattle.regions.specs.declared.Place.{Place}
 use Rattle.regions.specs.declared.Place.the-variants.{At, Nowhere}
 use Rattle.regions.specs.declared.Stretch as decl
@@ -35,7 +34,7 @@ abbrev pub row : ℕ → ℕ → ℕ → Row
 row b l o = record { base = b; len = l; offset = o }
 
 -- the first k rows of a flat list: an incomplete last row counts for nothing
-pub rows : ℕ → List ℕ → List Row
+unfoldable pub rows : ℕ → List ℕ → List Row
 rows zero ws = []
 rows (suc k) [] = []
 rows (suc k) (b ∷ []) = []
@@ -43,7 +42,7 @@ rows (suc k) (b ∷ l ∷ []) = []
 rows (suc k) (b ∷ l ∷ o ∷ ws) = row b l o ∷ rows k ws
 
 -- how many bytes a row has: as many as its length says, as a slice of size bytes has behind its offset, and as lie below 2 ^ 64
-pub extent : Row → ℕ → ℕ
+unfoldable pub extent : Row → ℕ → ℕ
 extent r size = min (min (r .len) (size - r .offset)) (2 ^ 64 - r .base)
 
 -- the row puts guest address a at place i of a slice of size bytes
@@ -53,7 +52,7 @@ pub record Holds (r : Row) (size a i : ℕ) : Type 0 where
   pub is : i ≡ r .offset + (a - r .base)
 
 -- what the row has from guest address a on
-pub stretchR : Row → ℕ → ℕ → decl.Stretch
+unfoldable pub stretchR : Row → ℕ → ℕ → decl.Stretch
 stretchR r size a =
     pick (leb (r .base) a)
     (pick (ltb a (r .base + extent r size)) (Run (r .offset + (a - r .base)) (r .base + extent r size - a)) Nothing)
@@ -64,11 +63,11 @@ firstOf (Run i n) s = Run i n
 firstOf Nothing s = s
 
 -- what the first row that holds guest address a has from there on
-pub stretchIn : List Row → ℕ → ℕ → decl.Stretch
+unfoldable pub stretchIn : List Row → ℕ → ℕ → decl.Stretch
 stretchIn [] size a = Nothing
 stretchIn (r ∷ rs) size a = firstOf (stretchR r size a) (stretchIn rs size a)
 
-pub stretchOf : Table → ℕ → ℕ → decl.Stretch
+unfoldable pub stretchOf : Table → ℕ → ℕ → decl.Stretch
 stretchOf t size a = stretchIn (rows 8 t) size a
 
 -- where guest address a lies
@@ -76,7 +75,7 @@ abbrev pub placeOf : decl.Stretch → Place
 placeOf (Run i n) = At i
 placeOf Nothing = Nowhere
 
-pub spot : Table → ℕ → ℕ → Place
+unfoldable pub spot : Table → ℕ → ℕ → Place
 spot t size a = placeOf (stretchOf t size a)
 
 pub spot-is : (t : Table) (size a : ℕ) → spot t size a ≡ placeOf (stretchOf t size a)
@@ -276,20 +275,24 @@ module _ (P : Row → Row → Type 0) (size a i b j : ℕ) (E : Type 0) (same : 
   oneIn (r ∷ rs) c (inr p) (inl q) = absurd (back′ r rs (c .0) p q)
   oneIn (r ∷ rs) c (inr p) (inr q) = oneIn rs (c .1) p q
 
+-- no number is among the n from i on and the k from j on
+abbrev pub Disjoint : ℕ → ℕ → ℕ → ℕ → Type 0
+Disjoint i n j k = (x : ℕ) → i ≤ x → x < i + n → j ≤ x → x < j + k → ⊥
+
 -- two rows share no byte of the slice; no guest address
 abbrev pub SliceApart : Row → Row → Type 0
-SliceApart r s = Apart (r .offset) (r .len) (s .offset) (s .len)
+SliceApart r s = Disjoint (r .offset) (r .len) (s .offset) (s .len)
 
 abbrev pub GuestApart : Row → Row → Type 0
-GuestApart r s = Apart (r .base) (r .len) (s .base) (s .len)
+GuestApart r s = Disjoint (r .base) (r .len) (s .base) (s .len)
 
 slice-clash : (r s : Row) (size a b i : ℕ) → SliceApart r s → Holds r size a i → Holds s size b i → ⊥
-slice-clash r s size a b i (inl c) p q = omega (arith, extent-fits r size .len, extent-fits s size .len)
-slice-clash r s size a b i (inr c) p q = omega (arith, extent-fits r size .len, extent-fits s size .len)
+slice-clash r s size a b i c p q =
+    let e = extent-fits r size .len in let f = extent-fits s size .len in c i (omega arith) (omega arith) (omega arith) (omega arith)
 
 guest-clash : (r s : Row) (size a i j : ℕ) → GuestApart r s → Holds r size a i → Holds s size a j → ⊥
-guest-clash r s size a i j (inl c) p q = omega (arith, extent-fits r size .len, extent-fits s size .len)
-guest-clash r s size a i j (inr c) p q = omega (arith, extent-fits r size .len, extent-fits s size .len)
+guest-clash r s size a i j c p q =
+    let e = extent-fits r size .len in let f = extent-fits s size .len in c a (omega arith) (omega arith) (omega arith) (omega arith)
 
 pub apart-good : (t : Table) → Pairs SliceApart (rows 8 t) → Good t
 unfolding Good Maps
