@@ -4,7 +4,7 @@ use Prim.Native.Nat.{ℕ, _+_, _*_, _/_, _%_, _^_, _≤_, _<_}
 use native.Mathlib.Omega.{arith}
 use mathlib.Core.Path.{_≡_, refl, sym, ap, _∙_}
 use mathlib.Core.Bool.{Bool, true, false}
-use mathlib.Core.List.{List, [], _∷_, _++_}
+use mathlib.Core.List.{List, [], _∷_, _++_, append-assoc}
 use lib.ListN.{length, take, drop}
 use lib.Dec.{eqb}
 use Rattle.wire.specs.Number.{number, bytes, Bytes, number-bytes, bytes-number, bytes-part}
@@ -59,6 +59,9 @@ descOf-descBytes d h =
 join : {a b c d x y z w : List ℕ} → a ≡ x → b ≡ y → c ≡ z → d ≡ w → a ++ b ++ c ++ d ≡ x ++ y ++ z ++ w
 join p q r s = cc
 
+glue : (a b c d l x y z : List ℕ) → z ≡ c ++ d → y ≡ b ++ z → x ≡ a ++ y → x ≡ l → a ++ b ++ c ++ d ≡ l
+glue a b c d l x y z p q r s = simp append-assoc (cc)
+
 -- and sixteen bytes are those of their descriptor
 pub descBytes-descOf : (bs : List ℕ) → length bs ≡ 16 → Bytes bs → descBytes (descOf bs) ≡ bs
 descBytes-descOf bs e h =
@@ -66,7 +69,7 @@ descBytes-descOf bs e h =
     let high : part bs 8 8 ≡ part bs 8 4 ++ part bs 12 4 = part-add bs 8 4 4 in
     let all : part bs 0 16 ≡ part bs 0 8 ++ part bs 8 8 = part-add bs 0 8 8 in
     join (bytes-part bs 0 8 h (omega arith)) (bytes-part bs 8 4 h (omega arith)) (bytes-part bs 12 2 h (omega arith)) (bytes-part bs 14 2 h (omega arith))
-    ∙ cc (low, high, all, part-all bs 16 e)
+    ∙ glue (part bs 0 8) (part bs 8 4) (part bs 12 2) (part bs 14 2) bs (part bs 0 16) (part bs 8 8) (part bs 12 4) low high all (part-all bs 16 e)
 
 -- ---- in guest memory
 abbrev pub onFields : Got16 → Found

@@ -205,3 +205,99 @@ module _ (t : Table) (size b n o : ℕ) (p : Place) (e : p ≡ freeOf t) where
     pub grown-added : r ≡ Added → Grown t size b n o Added (sets t i (b ∷ n ∷ o ∷ []))
     unfolding tableWith
     grown-added h = record { answer = sym h ∙ sym at; table = rw (at ∙ h, sym e ∙ f) }
+
+-- ---- what adding means: the row takes the place of a free one, so the table maps what it did and the new addresses, and no guest
+-- address twice if none was
+abbrev inFree : Row → List Row → List Row
+inFree x [] = []
+inFree x (r ∷ rs) = pick (eqb (r .len) 0) (x ∷ rs) (r ∷ inFree x rs)
+
+module _ (b n o : ℕ) where
+  put′ : (k b′ l o′ : ℕ) (ws : List ℕ) (i : ℕ) (c : Bool) (p : Place) → eqb l 0 ≡ c → freeIn (rows k ws) ≡ p → pick c (At 0) (shift 3 p) ≡ At i
+      → ((j : ℕ) → p ≡ At j → rows k (sets ws j (b ∷ n ∷ o ∷ [])) ≡ inFree (row b n o) (rows k ws))
+      → rows (suc k) (sets (b′ ∷ l ∷ o′ ∷ ws) i (b ∷ n ∷ o ∷ [])) ≡ pick c (row b n o ∷ rows k ws) (row b′ l o′ ∷ inFree (row b n o) (rows k ws))
+  unfolding rows
+  put′ k b′ l o′ ws i true p e q f h = let z : i ≡ 0 = cc in rw z
+  put′ k b′ l o′ ws i false (At j) e q f h =
+      let y : i ≡ 3 + j = cc in
+      let z : i ≡ suc (suc (suc j)) = omega arith in
+      rw z
+      (ap (λ (l₁ : List Row). row b′ l o′ ∷ l₁) (h j refl))
+  put′ k b′ l o′ ws i false Nowhere e q f h = absurd (let z : _≡_ {A = ℕ} 0 1 = cc in omega arith)
+
+  rows-put : (k : ℕ) (ws : List ℕ) (i : ℕ) → freeIn (rows k ws) ≡ At i → rows k (sets ws i (b ∷ n ∷ o ∷ [])) ≡ inFree (row b n o) (rows k ws)
+  unfolding freeIn rows
+  rows-put zero ws i e = absurd (let z : _≡_ {A = ℕ} 0 1 = cc in omega arith)
+  rows-put (suc k) [] i e = absurd (let z : _≡_ {A = ℕ} 0 1 = cc in omega arith)
+  rows-put (suc k) (x ∷ []) i e = absurd (let z : _≡_ {A = ℕ} 0 1 = cc in omega arith)
+  rows-put (suc k) (x ∷ y ∷ []) i e = absurd (let z : _≡_ {A = ℕ} 0 1 = cc in omega arith)
+  rows-put (suc k) (x ∷ y ∷ z ∷ ws) i e = put′ k x y z ws i (eqb y 0) (freeIn (rows k ws)) refl refl e (rows-put k ws)
+
+-- a row that shares none of the addresses
+pub apart-shares : (r : Row) (b n : ℕ) → sharesR r b n ≡ false → Disjoint (r .base) (r .len) b n
+apart-shares r b n e = λ x p q u v. let w = ltb-false (max (r .base) b) (min (r .base + r .len) (b + n)) e in omega arith
+
+module _ (x : Row) where
+  apart-sym : (r s : Row) → GuestApart r s → GuestApart s r
+  apart-sym r s h = λ y p q u v. h y u v p q
+
+  apart-row : (r : Row) → sharesR r (x .base) (x .len) ≡ false → GuestApart r x
+  apart-row r e = apart-shares r (x .base) (x .len) e
+
+  split′ : (c d : Bool) → pick c true d ≡ false → (c ≡ false) × (d ≡ false)
+  split′ true d e = absurd (true≢false e)
+  split′ false d e = (refl, e)
+
+  each-new : (rs : List Row) → sharesIn rs (x .base) (x .len) ≡ false → Each GuestApart x rs
+  unfolding sharesIn
+  each-new [] e = tt
+  each-new (r ∷ rs) e = let w = split′ (sharesR r (x .base) (x .len)) (sharesIn rs (x .base) (x .len)) e in (apart-sym r x (apart-row r (w .0)), each-new rs (w .1))
+
+  each′ : (r s : Row) (rs : List Row) (c : Bool) → GuestApart r x → Each GuestApart r (s ∷ rs) → Each GuestApart r (inFree x rs) → Each GuestApart r (pick c (x ∷ rs) (s ∷ inFree x rs))
+  each′ r s rs true g h f = (g, h .1)
+  each′ r s rs false g h f = (h .0, f)
+
+  each-old : (r : Row) (rs : List Row) → Each GuestApart r rs → GuestApart r x → Each GuestApart r (inFree x rs)
+  each-old r [] h g = tt
+  each-old r (s ∷ rs) h g = each′ r s rs (eqb (s .len) 0) g h (each-old r rs (h .1) g)
+
+  pairs′ : (r : Row) (rs : List Row) (c : Bool) → Pairs GuestApart (x ∷ rs) → Pairs GuestApart (r ∷ inFree x rs) → Pairs GuestApart (pick c (x ∷ rs) (r ∷ inFree x rs))
+  pairs′ r rs true g h = g
+  pairs′ r rs false g h = h
+
+  pairs-put : (rs : List Row) → sharesIn rs (x .base) (x .len) ≡ false → Pairs GuestApart rs → Pairs GuestApart (inFree x rs)
+  unfolding sharesIn
+  pairs-put [] e h = tt
+  pairs-put (r ∷ rs) e h =
+      let w = split′ (sharesR r (x .base) (x .len)) (sharesIn rs (x .base) (x .len)) e in
+      pairs′ r rs (eqb (r .len) 0) (each-new rs (w .1), h .1) (each-old r rs (h .0) (apart-row r (w .0)), pairs-put rs (w .1) (h .1))
+
+added-free : (t : Table) (size b n o : ℕ) (p : Place) → freeOf t ≡ p → addingOf t size b n o ≡ Added → (i : ℕ) × (p ≡ At i)
+unfolding addingOf
+added-free t size b n o (At i) e h = (i, refl)
+added-free t size b n o Nowhere e h = absurd (let z : _≡_ {A = ℕ} 0 1 = cc in omega arith)
+
+fault′ : (b₁ b₂ b₃ b₄ : Bool) → pick b₁ Empty (pick b₂ PastTop (pick b₃ PastSlice (pick b₄ Overlap Added))) ≡ Added → b₄ ≡ false
+fault′ true b₂ b₃ b₄ e = absurd (let z : _≡_ {A = ℕ} 0 1 = cc in omega arith)
+fault′ false true b₃ b₄ e = absurd (let z : _≡_ {A = ℕ} 0 1 = cc in omega arith)
+fault′ false false true b₄ e = absurd (let z : _≡_ {A = ℕ} 0 1 = cc in omega arith)
+fault′ false false false true e = absurd (let z : _≡_ {A = ℕ} 0 1 = cc in omega arith)
+fault′ false false false false e = refl
+
+module _ (t : Table) (size b n o : ℕ) (h : addingOf t size b n o ≡ Added) where
+  unshared : sharesIn (rows 8 t) b n ≡ false
+  unfolding addingOf faultOf
+  unshared = fault′ (eqb n 0) (ltb (2 ^ 64) (b + n)) (ltb size (o + n)) (sharesIn (rows 8 t) b n) (rw (added-free t size b n o (freeOf t) refl h .1) at h)
+
+  new-rows : rows 8 (tableWith t size b n o) ≡ inFree (row b n o) (rows 8 t)
+  unfolding tableWith freeOf
+  new-rows =
+      let w = added-free t size b n o (freeOf t) refl h in
+      rw (h, w .1) (rows-put b n o 8 t (w .0) (w .1))
+
+  -- a region that was added shares no guest address with the others
+  pub added-apart : Pairs GuestApart (rows 8 t) → Pairs GuestApart (rows 8 (tableWith t size b n o))
+  added-apart g = rw new-rows (pairs-put (row b n o) (rows 8 t) unshared g)
+
+  pub added-single : Pairs GuestApart (rows 8 t) → Single (tableWith t size b n o)
+  added-single g = apart-single (tableWith t size b n o) (added-apart g)
