@@ -9,22 +9,33 @@ ghost use Rattle.desc.specs.Desc.{hasNext, isWriteOnly, isIndirect, desc
 
 // Sizes in bytes: an element, the fields before the ring, and all fields that are no elements.
 pub const VIRTQ_DESCRIPTOR_SIZE: u32 = 16;
+
 pub const VIRTQ_AVAIL_ELEMENT_SIZE: u32 = 2;
+
 pub const VIRTQ_AVAIL_RING_HEADER_SIZE: u32 = 4;
+
 pub const VIRTQ_AVAIL_RING_META_SIZE: u32 = 6;
+
 pub const VIRTQ_USED_ELEMENT_SIZE: u32 = 8;
+
 pub const VIRTQ_USED_RING_HEADER_SIZE: u32 = 4;
+
 pub const VIRTQ_USED_RING_META_SIZE: u32 = 6;
 
 // What the addresses of the three areas are multiples of.
 pub const VIRTQ_DESC_TABLE_ALIGN: u64 = 16;
+
 pub const VIRTQ_AVAIL_RING_ALIGN: u64 = 2;
+
 pub const VIRTQ_USED_RING_ALIGN: u64 = 4;
 
 // The flags of a descriptor, and the one of the used ring by which a device asks for no notifications.
 pub const VRING_DESC_F_NEXT: u16 = 1;
+
 pub const VRING_DESC_F_WRITE: u16 = 2;
+
 pub const VRING_DESC_F_INDIRECT: u16 = 4;
+
 pub const VRING_USED_F_NO_NOTIFY: u16 = 1;
 
 pub struct Descriptor {
@@ -118,14 +129,36 @@ pub fn read_descriptor(regions: &[u64], mem: &[u8], table: u64, index: u16) -> F
 }
 
 // What a driver does: descriptor `index` of the table at guest address `table`, stored whole or not at all.
-pub fn write_descriptor(regions: &[u64], mem: &mut [u8], table: u64, index: u16, d: Descriptor) -> bool
+pub fn write_descriptor(
+    regions: &[u64],
+    mem: &mut [u8],
+    table: u64,
+    index: u16,
+    d: Descriptor,
+) -> bool
     ensures { λ r. ⌜ Wrote (now (regions .entry)) (now (mem .entry)) (descAddr table index) (descBytes d) r (now (mem .exit)) ⌝ }
 {
-    memory::write16(regions, mem, table, VIRTQ_DESCRIPTOR_SIZE * (index as u32), d.addr, d.len, d.flags, d.next)
+    memory::write16(
+        regions,
+        mem,
+        table,
+        VIRTQ_DESCRIPTOR_SIZE * (index as u32),
+        d.addr,
+        d.len,
+        d.flags,
+        d.next,
+    )
 }
 
 // A used element, id and length, at off in the used ring at guest address `ring`.
-pub fn write_used_elem(regions: &[u64], mem: &mut [u8], ring: u64, off: u32, id: u32, len: u32) -> bool
+pub fn write_used_elem(
+    regions: &[u64],
+    mem: &mut [u8],
+    ring: u64,
+    off: u32,
+    id: u32,
+    len: u32,
+) -> bool
     ensures { λ r. ⌜ Wrote (now (regions .entry)) (now (mem .entry)) (ring + off) (usedBytes id len) r (now (mem .exit)) ⌝ }
 {
     memory::write8(regions, mem, ring, off, id, len)

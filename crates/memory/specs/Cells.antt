@@ -100,8 +100,11 @@ fetch-back m [] (b ∷ bs) d w e = absurd (omega arith)
 fetch-back m (p ∷ ps) [] d w e = absurd (omega arith)
 fetch-back m (Nowhere ∷ ps) (b ∷ bs) d w e = absurd (true≢false (sym w))
 fetch-back m (At i ∷ ps) (b ∷ bs) d w e =
-    cc (store-off (set m i b) ps bs i (d .1), getD-set-same m i b 0 (d .0),
-    fetch-back (set m i b) ps bs (rw length-set (d .2)) w (omega arith))
+    cc (
+      store-off (set m i b) ps bs i (d .1),
+      getD-set-same m i b 0 (d .0),
+      fetch-back (set m i b) ps bs (rw length-set (d .2)) w (omega arith),
+    )
 
 -- ---- two slices that agree at a place agree there after the same write
 set-agree : (m k : List ℕ) (j b i : ℕ) → length m ≡ length k → getD m i 0 ≡ getD k i 0 → getD (set m j b) i 0 ≡ getD (set k j b) i 0

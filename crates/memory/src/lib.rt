@@ -218,7 +218,15 @@ fn put_pair(s: &mut [u8], i: usize, x: u32, y: u32)
     wire::put4(s, i + 4, y);
 }
 
-fn write8_from(regions: &[u64], mem: &mut [u8], addr: u64, off: u32, x: u32, y: u32, src: &mut [u8]) -> bool
+fn write8_from(
+    regions: &[u64],
+    mem: &mut [u8],
+    addr: u64,
+    off: u32,
+    x: u32,
+    y: u32,
+    src: &mut [u8],
+) -> bool
     requires { ⌜ length (now src) ≡ 8 ⌝ }
     ensures { λ r. ⌜ Wrote (now (regions .entry)) (now (mem .entry)) (addr + off) (pairBytes x y) r (now (mem .exit)) ⌝ }
 {
@@ -256,7 +264,17 @@ fn put_fields(s: &mut [u8], i: usize, a: u64, b: u32, c: u16, d: u16)
     wire::put2(s, i + 14, d);
 }
 
-fn write16_from(regions: &[u64], mem: &mut [u8], addr: u64, off: u32, a: u64, b: u32, c: u16, d: u16, src: &mut [u8]) -> bool
+fn write16_from(
+    regions: &[u64],
+    mem: &mut [u8],
+    addr: u64,
+    off: u32,
+    a: u64,
+    b: u32,
+    c: u16,
+    d: u16,
+    src: &mut [u8],
+) -> bool
     requires { ⌜ length (now src) ≡ 16 ⌝ }
     ensures { λ r. ⌜ Wrote (now (regions .entry)) (now (mem .entry)) (addr + off) (fieldBytes a b c d) r (now (mem .exit)) ⌝ }
 {
@@ -265,7 +283,16 @@ fn write16_from(regions: &[u64], mem: &mut [u8], addr: u64, off: u32, a: u64, b:
 }
 
 // Numbers of 8, 4, 2 and 2 bytes, side by side. No device writes descriptors: this lays one for a driver, so it has no fast way.
-pub fn write16(regions: &[u64], mem: &mut [u8], addr: u64, off: u32, a: u64, b: u32, c: u16, d: u16) -> bool
+pub fn write16(
+    regions: &[u64],
+    mem: &mut [u8],
+    addr: u64,
+    off: u32,
+    a: u64,
+    b: u32,
+    c: u16,
+    d: u16,
+) -> bool
     ensures { λ r. ⌜ Wrote (now (regions .entry)) (now (mem .entry)) (addr + off) (fieldBytes a b c d) r (now (mem .exit)) ⌝ }
 {
     let mut src = [0u8; 16];

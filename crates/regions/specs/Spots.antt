@@ -142,7 +142,7 @@ module _ (t : Table) (size a n k i : ℕ) (z : 0 < k) (h : i + 3 ≤ length t) (
   skipped-next e =
       record {
         rest = λ j x b o. u .rest j x b o
-        ∙ stretch-row t size x k i z h Nothing (sym (stretchR-out (rowAt t i) size x (λ y q. w .away e x y (omega arith) (omega arith) q)));
+            ∙ stretch-row t size x k i z h Nothing (sym (stretchR-out (rowAt t i) size x (λ y q. w .away e x y (omega arith) (omega arith) q)));
       }
 
   -- the row that holds them all gives the place of each
@@ -255,7 +255,7 @@ module _ (t : Table) (size addr n a left steps : ℕ) (h : Left t size addr n a 
           record {
             some = omega arith;
             same = h .same ∙ both _ _
-            (λ c. all-covered t size (a + have) (left - have) (λ k x b u. covered-all t size a left c (have + k) x (omega arith) (omega arith)))
-            (λ c. all-covered t size a left (λ k x b u. onward k x b u (decLe (k + 1) have) c));
+                (λ c. all-covered t size (a + have) (left - have) (λ k x b u. covered-all t size a left c (have + k) x (omega arith) (omega arith)))
+                (λ c. all-covered t size a left (λ k x b u. onward k x b u (decLe (k + 1) have) c));
             rows = let r = h .rows in let m = passed-more size a i have t e in omega arith;
           }

@@ -15,6 +15,7 @@ ghost use Rattle.regions.specs.Grow.{sharesR, sharesIn, freeOf, faultOf,
 
 // How many words of the table a region takes, and how many regions count.
 pub const REGION_WORDS: usize = 3;
+
 pub const REGIONS: usize = 8;
 
 // Where in the slice the bytes of an access begin, if they lie there in a row.
@@ -107,8 +108,8 @@ fn side_of(base: u64, len: u64, offset: u64, size: usize, a: u64, n: u64) -> Sid
     if all < offset {
         return Side::Away;
     }
-    let room = all - offset;
-    let have = least(len, room);
+    let rest = all - offset;
+    let held = least(len, rest);
     if a < base {
         if n <= base - a {
             return Side::Away;
@@ -116,10 +117,10 @@ fn side_of(base: u64, len: u64, offset: u64, size: usize, a: u64, n: u64) -> Sid
         return Side::Split;
     }
     let d = a - base;
-    if have <= d {
+    if held <= d {
         return Side::Away;
     }
-    if have - d < n {
+    if held - d < n {
         return Side::Split;
     }
     Side::All((offset + d) as usize)

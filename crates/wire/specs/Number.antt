@@ -88,7 +88,7 @@ bytes-low : (n v : ℕ) → bytes n (v % 256 ^ n) ≡ bytes n v
 bytes-low zero v = refl
 bytes-low (suc n) v =
     let w : v % 256 ^ suc n ≡ v / 256 % 256 ^ n * 256 + v % 256
-        = ap (λ (x : ℕ). v % x) (pow-suc 256 n) ∙ mod-mul v (pow-pos n) (omega arith) in
+    = ap (λ (x : ℕ). v % x) (pow-suc 256 n) ∙ mod-mul v (pow-pos n) (omega arith) in
     let low : v % 256 ^ suc n % 256 ≡ v % 256 = omega arith in
     let high : v % 256 ^ suc n / 256 ≡ v / 256 % 256 ^ n = omega arith in
     rw (low, high, bytes-low n (v / 256))

@@ -1,0 +1,9 @@
+# The same without the put.
+memory 64
+queue 1
+avail 32 0
+used 48 0
+event 1
+u16 38 5
+next-used 6
+question
