@@ -1,35 +1,24 @@
 -- SPDX-License-Identifier: Apache-2.0 AND BSD-3-Clause
 use borrow.Author.Needs.{needs}
-use mathlib.Core.Path.{sym, ap, _∙_}
-use Rattle.memory.specs.Cells.{cell}
 use Rattle.regions.specs.Table.{spot-found, spot-room}
 use Rattle.memory.proofs.byte_at.Statement.{statement}
 use Rattle.memory.proofs.byte_at.Tie as tie
-use Rattle.memory.proofs.byte_at.Reads as reads
-use Rattle.memory.proofs.byte_at.Lts as lts
-use Rattle.regions.proofs.find.Reads as find-reads
 
--- src/lib.rt:74:11
 find-requires : tie.Need-find-requires
 find-requires c κs = search needs
 
--- src/lib.rt:75:22
 enum-known-i : tie.Need-enum-known-i
 enum-known-i c = search needs
 
--- src/lib.rt:75:31
 shared-slice-read-result : tie.Need-shared-slice-read-result
 shared-slice-read-result c = spot-room _ _ _ _ (spot-found _ _ _ _ _ (c .before .before .before .before .find .ensures) (c .before .before .i .given .1))
 
--- src/lib.rt:76:29
 enum-told : tie.Need-enum-told
 enum-told c = search needs
 
--- src/lib.rt:71:1
 returns : tie.Need-returns
 returns c = rw (spot-found _ _ _ _ _ (c .before .before .before .before .find .ensures) (c .before .before .i .given .1))
 
--- src/lib.rt:71:1
 returns-2 : tie.Need-returns-2
 returns-2 c = rw (spot-found _ _ _ _ _ (c .before .before .find .ensures) (c .enum-told .given .1))
 

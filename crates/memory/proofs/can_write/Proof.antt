@@ -4,15 +4,10 @@ use mathlib.Core.Path.{sym, _∙_}
 use Rattle.memory.specs.Access.{writable-is}
 use Rattle.memory.proofs.can_write.Statement.{statement}
 use Rattle.memory.proofs.can_write.Tie as tie
-use Rattle.memory.proofs.can_write.Reads as reads
-use Rattle.memory.proofs.can_write.Lts as lts
-use Rattle.memory.proofs.in_memory.Reads as in-memory-reads
 
--- src/lib.rt:64:5
 in-memory-requires : tie.Need-in-memory-requires
 in-memory-requires c κs = search needs
 
--- src/lib.rt:61:1
 returns : tie.Need-returns
 returns c = c .in-memory .ensures ∙ sym (writable-is _ _ _ _)
 

@@ -3,41 +3,28 @@ use borrow.Author.Needs.{needs}
 use Rattle.memory.specs.Access.{fields-part}
 use Rattle.memory.proofs.fields_at.Statement.{statement}
 use Rattle.memory.proofs.fields_at.Tie as tie
-use Rattle.memory.proofs.fields_at.Reads as reads
-use Rattle.memory.proofs.fields_at.Lts as lts
-use Rattle.wire.proofs.get2.Reads as get2-reads
-use Rattle.wire.proofs.get4.Reads as get4-reads
-use Rattle.wire.proofs.get8.Reads as get8-reads
 
--- src/lib.rt:148:9
 get8-requires : tie.Need-get8-requires
 get8-requires c κs = search needs
 
--- src/lib.rt:149:27
 add-get4 : tie.Need-add-get4
 add-get4 c = search needs
 
--- src/lib.rt:149:9
 get4-requires : tie.Need-get4-requires
 get4-requires c κs = search needs
 
--- src/lib.rt:150:27
 add-get2 : tie.Need-add-get2
 add-get2 c = search needs
 
--- src/lib.rt:150:9
 get2-requires : tie.Need-get2-requires
 get2-requires c κs = search needs
 
--- src/lib.rt:151:27
 add-get2-2 : tie.Need-add-get2-2
 add-get2-2 c = search needs
 
--- src/lib.rt:151:9
 get2-requires-2 : tie.Need-get2-requires-2
 get2-requires-2 c κs = search needs
 
--- src/lib.rt:144:1
 returns : tie.Need-returns
 returns c = cc (fields-part (c .before .before .before .before .before .args .s .now) (c .before .before .before .before .before .args .i) (c .before .before .before .before .before .pre))
 

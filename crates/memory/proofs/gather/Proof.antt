@@ -2,15 +2,12 @@
 use borrow.Author.Needs.{needs}
 use Prim.Native.Nat.{_-_, _≤_, _<_}
 use native.Mathlib.Omega.{arith}
-use mathlib.Core.Path.{_≡_, refl, sym, ap}
+use mathlib.Core.Path.{_≡_, refl}
 use lib.ListN.{length, take}
 use Rattle.memory.specs.Cells.{fetch, fetched-next, fetched-all}
 use Rattle.regions.specs.Spots.{spots, covered-top, spots-none}
 use Rattle.memory.proofs.gather.Statement.{statement}
 use Rattle.memory.proofs.gather.Tie as tie
-use Rattle.memory.proofs.gather.Reads as reads
-use Rattle.memory.proofs.gather.Lts as lts
-use Rattle.memory.proofs.byte_at.Reads as byte-at-reads
 
 abbrev Inv-loop : tie.InvT-loop
 Inv-loop regions mem a out₀ k₀ out k = (k ≤ length out₀) × (length out ≡ length out₀) × (take k out ≡ fetch mem (spots regions (length mem) a k))
@@ -18,39 +15,30 @@ Inv-loop regions mem a out₀ k₀ out k = (k ≤ length out₀) × (length out 
 abbrev μ-loop : tie.MeasureT-loop
 μ-loop regions mem a out₀ k₀ out k = length out₀ - k
 
--- src/lib.rt:98:5
 loop-holds : tie.Need-loop-holds Inv-loop μ-loop
 loop-holds c = (search needs, refl, rw spots-none)
 
--- src/lib.rt:99:40
 add-byte-at : tie.Need-add-byte-at Inv-loop μ-loop
 add-byte-at c = let l = c .before .loop in let z : l .k < length (c .before .before .before .before .before .args .out .now) = omega arith in omega (arith, covered-top _ _ _ _ (c .before .before .before .before .before .pre) (l .k) z)
 
--- src/lib.rt:99:18
 byte-at-requires : tie.Need-byte-at-requires Inv-loop μ-loop
 byte-at-requires c κs = search needs
 
--- src/lib.rt:99:9
 slice-write-out : tie.Need-slice-write-out Inv-loop μ-loop
 slice-write-out c = search needs
 
--- src/lib.rt:100:9
 add-k : tie.Need-add-k Inv-loop μ-loop
 add-k c = search needs
 
--- src/lib.rt:98:5
 loop-less : tie.Need-loop-less Inv-loop μ-loop
 loop-less c = search needs
 
--- src/lib.rt:98:5
 loop-again : tie.Need-loop-again Inv-loop μ-loop
 loop-again c = let l = c .before .before .loop in let z : l .k < length (l .out) = omega arith in (search needs, search needs, fetched-next (c .before .before .before .before .before .before .args .regions .now) (c .before .before .before .before .before .before .args .mem .now) (c .before .before .before .before .before .before .args .a) (l .out) (l .k) _ z (c .byte-at .ensures) (l .inv .2))
 
--- src/lib.rt:93:1
 same-length : tie.Need-same-length Inv-loop μ-loop
 same-length c = search needs
 
--- src/lib.rt:93:1
 returns : tie.Need-returns Inv-loop μ-loop
 returns c = let l = c .before .loop in fetched-all (c .before .before .before .before .before .args .regions .now) (c .before .before .before .before .before .args .mem .now) (c .before .before .before .before .before .args .a) _ (l .k) (length (c .before .before .before .before .before .args .out .now)) (l .inv .0) (omega arith) (l .inv .1) (l .inv .2)
 

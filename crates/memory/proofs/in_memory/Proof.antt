@@ -1,35 +1,25 @@
 -- SPDX-License-Identifier: Apache-2.0 AND BSD-3-Clause
 use borrow.Author.Needs.{needs}
-use mathlib.Core.Path.{sym, _∙_}
+use mathlib.Core.Path.{sym}
 use Rattle.regions.specs.Spots.{covered-run}
 use Rattle.memory.proofs.in_memory.Statement.{statement}
 use Rattle.memory.proofs.in_memory.Tie as tie
-use Rattle.memory.proofs.in_memory.Reads as reads
-use Rattle.memory.proofs.in_memory.Lts as lts
-use Rattle.memory.proofs.in_rows.Reads as in-rows-reads
-use Rattle.regions.proofs.locate.Reads as locate-reads
 
--- src/lib.rt:36:11
 locate-requires : tie.Need-locate-requires
 locate-requires c κs = search needs
 
--- src/lib.rt:37:25
 enum-told : tie.Need-enum-told
 enum-told c = search needs
 
--- src/lib.rt:38:27
 enum-told-2 : tie.Need-enum-told-2
 enum-told-2 c = search needs
 
--- src/lib.rt:38:27
 in-rows-requires : tie.Need-in-rows-requires
 in-rows-requires c κs = search needs
 
--- src/lib.rt:33:1
 returns : tie.Need-returns
 returns c = sym (covered-run _ _ _ _ _ (c .before .before .locate .ensures .at _ (c .enum-told .given .1)))
 
--- src/lib.rt:33:1
 returns-2 : tie.Need-returns-2
 returns-2 c = search needs
 

@@ -3,45 +3,31 @@ use borrow.Author.Needs.{needs}
 use Rattle.memory.specs.Access.{sets-fields}
 use Rattle.memory.proofs.put_fields.Statement.{statement}
 use Rattle.memory.proofs.put_fields.Tie as tie
-use Rattle.memory.proofs.put_fields.Reads as reads
-use Rattle.memory.proofs.put_fields.Lts as lts
-use Rattle.wire.proofs.put2.Reads as put2-reads
-use Rattle.wire.proofs.put4.Reads as put4-reads
-use Rattle.wire.proofs.put8.Reads as put8-reads
 
--- src/lib.rt:253:5
 put8-requires : tie.Need-put8-requires
 put8-requires c κs = search needs
 
--- src/lib.rt:254:19
 add-put4 : tie.Need-add-put4
 add-put4 c = search needs
 
--- src/lib.rt:254:5
 put4-requires : tie.Need-put4-requires
 put4-requires c κs = search needs
 
--- src/lib.rt:255:19
 add-put2 : tie.Need-add-put2
 add-put2 c = search needs
 
--- src/lib.rt:255:5
 put2-requires : tie.Need-put2-requires
 put2-requires c κs = search needs
 
--- src/lib.rt:256:19
 add-put2-2 : tie.Need-add-put2-2
 add-put2-2 c = search needs
 
--- src/lib.rt:256:5
 put2-requires-2 : tie.Need-put2-requires-2
 put2-requires-2 c κs = search needs
 
--- src/lib.rt:249:1
 same-length : tie.Need-same-length
 same-length c = search needs
 
--- src/lib.rt:249:1
 returns : tie.Need-returns
 returns c = cc (sets-fields (c .before .before .before .before .before .before .before .before .before .before .before .before .before .before .before .before .before .args .s .now) (c .before .before .before .before .before .before .before .before .before .before .before .before .before .before .before .before .before .args .i) (c .before .before .before .before .before .before .before .before .before .before .before .before .before .before .before .before .before .args .a) (c .before .before .before .before .before .before .before .before .before .before .before .before .before .before .before .before .before .args .b) (c .before .before .before .before .before .before .before .before .before .before .before .before .before .before .before .before .before .args .c) (c .before .before .before .before .before .before .before .before .before .before .before .before .before .before .before .before .before .args .d))
 

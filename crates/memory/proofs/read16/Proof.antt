@@ -1,40 +1,28 @@
 -- SPDX-License-Identifier: Apache-2.0 AND BSD-3-Clause
 use borrow.Author.Needs.{needs}
-use mathlib.Core.Path.{sym, ap, _∙_}
+use mathlib.Core.Path.{sym, _∙_}
 use Rattle.memory.specs.Access.{read16-run}
 use Rattle.memory.proofs.read16.Statement.{statement}
 use Rattle.memory.proofs.read16.Tie as tie
-use Rattle.memory.proofs.read16.Reads as reads
-use Rattle.memory.proofs.read16.Lts as lts
-use Rattle.memory.proofs.fields_at.Reads as fields-at-reads
-use Rattle.memory.proofs.read16_across.Reads as read16-across-reads
-use Rattle.regions.proofs.locate.Reads as locate-reads
 
--- src/lib.rt:176:11
 locate-requires : tie.Need-locate-requires
 locate-requires c κs = search needs
 
--- src/lib.rt:177:19
 enum-known-i : tie.Need-enum-known-i
 enum-known-i c = search needs
 
--- src/lib.rt:177:25
 fields-at-requires : tie.Need-fields-at-requires
 fields-at-requires c κs = (c .before .before .before .locate .ensures .at _ (c .before .i .given .1)) .fits
 
--- src/lib.rt:178:27
 enum-told : tie.Need-enum-told
 enum-told c = search needs
 
--- src/lib.rt:178:27
 read16-across-requires : tie.Need-read16-across-requires
 read16-across-requires c κs = search needs
 
--- src/lib.rt:173:1
 returns : tie.Need-returns
 returns c = c .fields-at .ensures ∙ sym (read16-run _ _ _ _ (c .before .before .before .before .locate .ensures .at _ (c .before .before .i .given .1)))
 
--- src/lib.rt:173:1
 returns-2 : tie.Need-returns-2
 returns-2 c = search needs
 

@@ -3,37 +3,26 @@ use borrow.Author.Tests.{not-true, not-false}
 use borrow.Author.Needs.{needs}
 use Prim.Native.Nat.{_+_, _<_, _^_}
 use native.Mathlib.Omega.{arith}
-use mathlib.Core.Path.{sym, ap, _∙_}
-use Rattle.memory.specs.declared.Got2.the-variants.{Value}
+use mathlib.Core.Path.{_∙_}
 use Rattle.memory.specs.Access.{read16-refused, read16-slow, readable-top, readable-covered}
 use Rattle.memory.proofs.read16_across.Statement.{statement}
 use Rattle.memory.proofs.read16_across.Tie as tie
-use Rattle.memory.proofs.read16_across.Reads as reads
-use Rattle.memory.proofs.read16_across.Lts as lts
-use Rattle.memory.proofs.can_read.Reads as can-read-reads
-use Rattle.memory.proofs.read16_into.Reads as read16-into-reads
 
--- src/lib.rt:166:9
 can-read-requires : tie.Need-can-read-requires
 can-read-requires c κs = search needs
 
--- src/lib.rt:167:9
 returns : tie.Need-returns
 returns c = read16-refused _ _ _ _ (c .before .can-read .ensures) (not-true _ (c .if1 .taken))
 
--- src/lib.rt:170:31
 add-read16-into : tie.Need-add-read16-into
 add-read16-into c = let h : c .before .before .before .before .args .addr + c .before .before .before .before .args .off < 2 ^ 64 = readable-top _ _ _ 16 _ (omega arith) (c .before .can-read .ensures) (not-false _ (c .if1 .left)) in omega arith
 
--- src/lib.rt:170:50
 slice-aggregate-read16-into : tie.Need-slice-aggregate-read16-into
 slice-aggregate-read16-into c = search needs
 
--- src/lib.rt:170:5
 read16-into-requires : tie.Need-read16-into-requires
 read16-into-requires c κs = (readable-covered _ _ _ _ _ (c .before .before .can-read .ensures) (not-false _ (c .before .if1 .left)), search needs)
 
--- src/lib.rt:163:1
 returns-2 : tie.Need-returns-2
 returns-2 c = c .before .read16-into .ensures ∙ read16-slow _ _ _ _ (c .before .before .before .before .can-read .ensures) (not-false _ (c .before .before .before .if1 .left))
 

@@ -5,37 +5,25 @@ use Rattle.memory.specs.declared.Got2.the-variants.{Value}
 use Rattle.memory.specs.Access.{read2-run}
 use Rattle.memory.proofs.read2.Statement.{statement}
 use Rattle.memory.proofs.read2.Tie as tie
-use Rattle.memory.proofs.read2.Reads as reads
-use Rattle.memory.proofs.read2.Lts as lts
-use Rattle.memory.proofs.read2_across.Reads as read2-across-reads
-use Rattle.regions.proofs.locate.Reads as locate-reads
-use Rattle.wire.proofs.get2.Reads as get2-reads
 
--- src/lib.rt:138:11
 locate-requires : tie.Need-locate-requires
 locate-requires c κs = search needs
 
--- src/lib.rt:139:19
 enum-known-i : tie.Need-enum-known-i
 enum-known-i c = search needs
 
--- src/lib.rt:139:37
 get2-requires : tie.Need-get2-requires
 get2-requires c κs = (c .before .before .before .locate .ensures .at _ (c .before .i .given .1)) .fits
 
--- src/lib.rt:140:27
 enum-told : tie.Need-enum-told
 enum-told c = search needs
 
--- src/lib.rt:140:27
 read2-across-requires : tie.Need-read2-across-requires
 read2-across-requires c κs = search needs
 
--- src/lib.rt:135:1
 returns : tie.Need-returns
 returns c = ap Value (c .get2 .ensures) ∙ sym (read2-run _ _ _ _ (c .before .before .before .before .locate .ensures .at _ (c .before .before .i .given .1)))
 
--- src/lib.rt:135:1
 returns-2 : tie.Need-returns-2
 returns-2 c = search needs
 

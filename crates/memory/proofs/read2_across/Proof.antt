@@ -3,37 +3,27 @@ use borrow.Author.Tests.{not-true, not-false}
 use borrow.Author.Needs.{needs}
 use Prim.Native.Nat.{_+_, _<_, _^_}
 use native.Mathlib.Omega.{arith}
-use mathlib.Core.Path.{sym, ap, _∙_}
+use mathlib.Core.Path.{ap, _∙_}
 use Rattle.memory.specs.declared.Got2.the-variants.{Value}
 use Rattle.memory.specs.Access.{read2-refused, read2-slow, readable-top, readable-covered}
 use Rattle.memory.proofs.read2_across.Statement.{statement}
 use Rattle.memory.proofs.read2_across.Tie as tie
-use Rattle.memory.proofs.read2_across.Reads as reads
-use Rattle.memory.proofs.read2_across.Lts as lts
-use Rattle.memory.proofs.can_read.Reads as can-read-reads
-use Rattle.memory.proofs.read2_into.Reads as read2-into-reads
 
--- src/lib.rt:128:9
 can-read-requires : tie.Need-can-read-requires
 can-read-requires c κs = search needs
 
--- src/lib.rt:129:9
 returns : tie.Need-returns
 returns c = read2-refused _ _ _ _ (c .before .can-read .ensures) (not-true _ (c .if1 .taken))
 
--- src/lib.rt:132:42
 add-read2-into : tie.Need-add-read2-into
 add-read2-into c = let h : c .before .before .before .before .args .addr + c .before .before .before .before .args .off < 2 ^ 64 = readable-top _ _ _ 2 _ (omega arith) (c .before .can-read .ensures) (not-false _ (c .if1 .left)) in omega arith
 
--- src/lib.rt:132:61
 slice-aggregate-read2-into : tie.Need-slice-aggregate-read2-into
 slice-aggregate-read2-into c = search needs
 
--- src/lib.rt:132:17
 read2-into-requires : tie.Need-read2-into-requires
 read2-into-requires c κs = (readable-covered _ _ _ _ _ (c .before .before .can-read .ensures) (not-false _ (c .before .if1 .left)), search needs)
 
--- src/lib.rt:125:1
 returns-2 : tie.Need-returns-2
 returns-2 c = ap Value (c .before .read2-into .ensures) ∙ read2-slow _ _ _ _ (c .before .before .before .before .can-read .ensures) (not-false _ (c .before .before .before .if1 .left))
 

@@ -1,38 +1,27 @@
 -- SPDX-License-Identifier: Apache-2.0 AND BSD-3-Clause
 use borrow.Author.Needs.{needs}
-use mathlib.Core.Path.{sym, ap, _∙_}
-use Rattle.memory.specs.Cells.{store1}
 use Rattle.regions.specs.Table.{spot-found, spot-room}
 use Rattle.memory.proofs.store_byte.Statement.{statement}
 use Rattle.memory.proofs.store_byte.Tie as tie
-use Rattle.memory.proofs.store_byte.Reads as reads
-use Rattle.memory.proofs.store_byte.Lts as lts
-use Rattle.regions.proofs.find.Reads as find-reads
 
--- src/lib.rt:84:11
 find-requires : tie.Need-find-requires
 find-requires c κs = search needs
 
--- src/lib.rt:85:22
 enum-known-i : tie.Need-enum-known-i
 enum-known-i c = search needs
 
--- src/lib.rt:86:13
 slice-write-mem : tie.Need-slice-write-mem
 slice-write-mem c = spot-room _ _ _ _ (spot-found _ _ _ _ _ (c .before .before .before .find .ensures) (c .before .i .given .1))
 
 enum-told : tie.Need-enum-told
 enum-told c = search needs
 
--- src/lib.rt:81:1
 same-length : tie.Need-same-length
 same-length c = search needs
 
--- src/lib.rt:81:1
 returns : tie.Need-returns
 returns c = rw (spot-found _ _ _ _ _ (c .before .before .before .find .ensures) (c .before .i .given .1))
 
--- src/lib.rt:81:1
 returns-2 : tie.Need-returns-2
 returns-2 c = rw (spot-found _ _ _ _ _ (c .before .before .find .ensures) (c .enum-told .given .1))
 

@@ -1,32 +1,23 @@
 -- SPDX-License-Identifier: Apache-2.0 AND BSD-3-Clause
 use borrow.Author.Needs.{needs}
-use mathlib.Core.Path.{sym, ap, _∙_}
+use mathlib.Core.Path.{_∙_}
 use Rattle.memory.specs.Access.{fieldBytes}
 use Rattle.wire.specs.Part.{sets-whole}
 use Rattle.memory.proofs.write16_from.Statement.{statement}
 use Rattle.memory.proofs.write16_from.Tie as tie
-use Rattle.memory.proofs.write16_from.Reads as reads
-use Rattle.memory.proofs.write16_from.Lts as lts
-use Rattle.memory.proofs.put_fields.Reads as put-fields-reads
-use Rattle.memory.proofs.write_across.Reads as write-across-reads
 
--- src/lib.rt:263:5
 put-fields-requires : tie.Need-put-fields-requires
 put-fields-requires c κs = search needs
 
--- src/lib.rt:264:5
 write-across-requires : tie.Need-write-across-requires
 write-across-requires c κs = search needs
 
--- src/lib.rt:259:1
 same-length : tie.Need-same-length
 same-length c = search needs
 
--- src/lib.rt:259:1
 same-length-2 : tie.Need-same-length-2
 same-length-2 c = search needs
 
--- src/lib.rt:259:1
 returns : tie.Need-returns
 returns c = let e = c .before .before .before .before .before .before .before .put-fields .ensures ∙ sets-whole (c .before .before .before .before .before .before .before .before .before .before .before .before .args .src .now) (fieldBytes (c .before .before .before .before .before .before .before .before .before .before .before .before .args .a) (c .before .before .before .before .before .before .before .before .before .before .before .before .args .b) (c .before .before .before .before .before .before .before .before .before .before .before .before .args .c) (c .before .before .before .before .before .before .before .before .before .before .before .before .args .d)) (c .before .before .before .before .before .before .before .before .before .before .before .before .pre) in rw e at (c .before .before .write-across .ensures)
 

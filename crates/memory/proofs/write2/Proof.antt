@@ -3,45 +3,31 @@ use borrow.Author.Needs.{needs}
 use Rattle.memory.specs.Access.{wrote-run}
 use Rattle.memory.proofs.write2.Statement.{statement}
 use Rattle.memory.proofs.write2.Tie as tie
-use Rattle.memory.proofs.write2.Reads as reads
-use Rattle.memory.proofs.write2.Lts as lts
-use Rattle.memory.proofs.write2_across.Reads as write2-across-reads
-use Rattle.regions.proofs.locate.Reads as locate-reads
-use Rattle.wire.proofs.put2.Reads as put2-reads
 
--- src/lib.rt:204:11
 locate-requires : tie.Need-locate-requires
 locate-requires c κs = search needs
 
--- src/lib.rt:205:19
 enum-known-i : tie.Need-enum-known-i
 enum-known-i c = search needs
 
--- src/lib.rt:206:13
 put2-requires : tie.Need-put2-requires
 put2-requires c κs = (c .before .before .before .before .locate .ensures .at _ (c .before .before .i .given .1)) .fits
 
--- src/lib.rt:209:50
 enum-told : tie.Need-enum-told
 enum-told c = search needs
 
--- src/lib.rt:209:27
 write2-across-requires : tie.Need-write2-across-requires
 write2-across-requires c κs = search needs
 
--- src/lib.rt:201:1
 same-length : tie.Need-same-length
 same-length c = search needs
 
--- src/lib.rt:201:1
 returns : tie.Need-returns
 returns c = wrote-run _ _ _ _ _ _ (c .before .before .before .before .before .before .before .locate .ensures .at _ (c .before .before .before .before .before .i .given .1)) (c .before .before .put2 .ensures)
 
--- src/lib.rt:201:1
 same-length-2 : tie.Need-same-length-2
 same-length-2 c = search needs
 
--- src/lib.rt:201:1
 returns-2 : tie.Need-returns-2
 returns-2 c = search needs
 

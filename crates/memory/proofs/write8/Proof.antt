@@ -3,45 +3,31 @@ use borrow.Author.Needs.{needs}
 use Rattle.memory.specs.Access.{wrote-run}
 use Rattle.memory.proofs.write8.Statement.{statement}
 use Rattle.memory.proofs.write8.Tie as tie
-use Rattle.memory.proofs.write8.Reads as reads
-use Rattle.memory.proofs.write8.Lts as lts
-use Rattle.memory.proofs.put_pair.Reads as put-pair-reads
-use Rattle.memory.proofs.write8_across.Reads as write8-across-reads
-use Rattle.regions.proofs.locate.Reads as locate-reads
 
--- src/lib.rt:240:11
 locate-requires : tie.Need-locate-requires
 locate-requires c κs = search needs
 
--- src/lib.rt:241:19
 enum-known-i : tie.Need-enum-known-i
 enum-known-i c = search needs
 
--- src/lib.rt:242:13
 put-pair-requires : tie.Need-put-pair-requires
 put-pair-requires c κs = (c .before .before .before .before .locate .ensures .at _ (c .before .before .i .given .1)) .fits
 
--- src/lib.rt:245:50
 enum-told : tie.Need-enum-told
 enum-told c = search needs
 
--- src/lib.rt:245:27
 write8-across-requires : tie.Need-write8-across-requires
 write8-across-requires c κs = search needs
 
--- src/lib.rt:237:1
 same-length : tie.Need-same-length
 same-length c = search needs
 
--- src/lib.rt:237:1
 returns : tie.Need-returns
 returns c = wrote-run _ _ _ _ _ _ (c .before .before .before .before .before .before .before .locate .ensures .at _ (c .before .before .before .before .before .i .given .1)) (c .before .before .put-pair .ensures)
 
--- src/lib.rt:237:1
 same-length-2 : tie.Need-same-length-2
 same-length-2 c = search needs
 
--- src/lib.rt:237:1
 returns-2 : tie.Need-returns-2
 returns-2 c = search needs
 

@@ -6,36 +6,25 @@ use native.Mathlib.Omega.{arith}
 use Rattle.memory.specs.Access.{wrote-refused, wrote-slow, writable-top, writable-covered}
 use Rattle.memory.proofs.write_across.Statement.{statement}
 use Rattle.memory.proofs.write_across.Tie as tie
-use Rattle.memory.proofs.write_across.Reads as reads
-use Rattle.memory.proofs.write_across.Lts as lts
-use Rattle.memory.proofs.can_write.Reads as can-write-reads
-use Rattle.memory.proofs.scatter.Reads as scatter-reads
 
--- src/lib.rt:187:50
 cast-can-write : tie.Need-cast-can-write
 cast-can-write c = search needs
 
--- src/lib.rt:187:9
 can-write-requires : tie.Need-can-write-requires
 can-write-requires c κs = search needs
 
--- src/lib.rt:188:9
 returns : tie.Need-returns
 returns c = wrote-refused _ _ _ _ _ (c .before .can-write .ensures) (not-true _ (c .if1 .taken))
 
--- src/lib.rt:190:27
 add-scatter : tie.Need-add-scatter
 add-scatter c = let h : c .before .before .before .before .before .before .args .addr + c .before .before .before .before .before .before .args .off < 2 ^ 64 = writable-top _ _ _ _ _ (c .before .before .before .before .before .before .pre .0) (c .before .before .can-write .ensures) (not-false _ (c .before .if1 .left)) in omega arith
 
--- src/lib.rt:190:5
 scatter-requires : tie.Need-scatter-requires
 scatter-requires c κs = writable-covered _ _ _ _ _ (c .before .before .can-write .ensures) (not-false _ (c .before .if1 .left))
 
--- src/lib.rt:183:1
 same-length : tie.Need-same-length
 same-length c = search needs
 
--- src/lib.rt:183:1
 returns-2 : tie.Need-returns-2
 returns-2 c = wrote-slow _ _ _ _ _ _ (c .before .before .before .before .before .can-write .ensures) (not-false _ (c .before .before .before .before .if1 .left)) (c .before .before .scatter .ensures)
 

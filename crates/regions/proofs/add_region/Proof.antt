@@ -2,113 +2,83 @@
 use borrow.Author.Needs.{needs}
 use Prim.Native.Nat.{ℕ}
 use native.Mathlib.Omega.{arith}
-use mathlib.Core.Path.{_≡_, sym, ap, _∙_}
+use mathlib.Core.Path.{_≡_, sym, _∙_}
 use Rattle.regions.specs.Grow.{free-fits, grown-full, grown-refused, grown-added}
 use Rattle.regions.proofs.add_region.Statement.{statement}
 use Rattle.regions.proofs.add_region.Tie as tie
-use Rattle.regions.proofs.add_region.Reads as reads
-use Rattle.regions.proofs.add_region.Lts as lts
-use Rattle.regions.proofs.free_row.Reads as free-row-reads
-use Rattle.regions.proofs.put_row.Reads as put-row-reads
-use Rattle.regions.proofs.region_fault.Reads as region-fault-reads
 
--- src/lib.rt:308:11
 free-row-requires : tie.Need-free-row-requires
 free-row-requires c κs = search needs
 
--- src/lib.rt:309:19
 enum-known-at : tie.Need-enum-known-at
 enum-known-at c = search needs
 
--- src/lib.rt:310:17
 region-fault-requires : tie.Need-region-fault-requires
 region-fault-requires c κs = search needs
 
--- src/lib.rt:313:29
 enum-told : tie.Need-enum-told
 enum-told c = search needs
 
--- src/lib.rt:313:21
 put-row-requires : tie.Need-put-row-requires
 put-row-requires c κs = free-fits _ _ _ (c .before .before .before .before .before .before .before .before .free-row .ensures) (c .before .before .before .before .before .before .at .given .1)
 
--- src/lib.rt:316:33
 enum-told-2 : tie.Need-enum-told-2
 enum-told-2 c = search needs
 
--- src/lib.rt:317:34
 enum-told-3 : tie.Need-enum-told-3
 enum-told-3 c = search needs
 
--- src/lib.rt:318:36
 enum-told-4 : tie.Need-enum-told-4
 enum-told-4 c = search needs
 
--- src/lib.rt:319:38
 enum-told-5 : tie.Need-enum-told-5
 enum-told-5 c = search needs
 
--- src/lib.rt:320:36
 enum-told-6 : tie.Need-enum-told-6
 enum-told-6 c = search needs
 
--- src/lib.rt:323:27
 enum-told-7 : tie.Need-enum-told-7
 enum-told-7 c = search needs
 
--- src/lib.rt:305:1
 same-length : tie.Need-same-length
 same-length c = search needs
 
--- src/lib.rt:305:1
 returns : tie.Need-returns
 returns c = let w = grown-added _ _ _ _ _ _ (c .before .before .before .before .before .before .before .before .before .before .before .free-row .ensures) _ (c .before .before .before .before .before .before .before .before .before .at .given .1) _ (c .before .before .before .before .before .before .region-fault .ensures) (c .before .before .before .before .enum-told .given .1) in record { answer = w .answer; table = c .before .before .put-row .ensures ∙ w .table }
 
--- src/lib.rt:305:1
 same-length-2 : tie.Need-same-length-2
 same-length-2 c = search needs
 
--- src/lib.rt:305:1
 returns-2 : tie.Need-returns-2
 returns-2 c = grown-refused _ _ _ _ _ _ (c .before .before .before .before .before .before .before .free-row .ensures) _ (c .before .before .before .before .before .at .given .1) _ (sym (c .enum-told2 .given .1) ∙ c .before .before .region-fault .ensures) (λ e. let z : _≡_ {A = ℕ} 0 1 = cc in omega arith)
 
--- src/lib.rt:305:1
 same-length-3 : tie.Need-same-length-3
 same-length-3 c = search needs
 
--- src/lib.rt:305:1
 returns-3 : tie.Need-returns-3
 returns-3 c = grown-refused _ _ _ _ _ _ (c .before .before .before .before .before .before .before .free-row .ensures) _ (c .before .before .before .before .before .at .given .1) _ (sym (c .enum-told3 .given .1) ∙ c .before .before .region-fault .ensures) (λ e. let z : _≡_ {A = ℕ} 0 1 = cc in omega arith)
 
--- src/lib.rt:305:1
 same-length-4 : tie.Need-same-length-4
 same-length-4 c = search needs
 
--- src/lib.rt:305:1
 returns-4 : tie.Need-returns-4
 returns-4 c = grown-refused _ _ _ _ _ _ (c .before .before .before .before .before .before .before .free-row .ensures) _ (c .before .before .before .before .before .at .given .1) _ (sym (c .enum-told4 .given .1) ∙ c .before .before .region-fault .ensures) (λ e. let z : _≡_ {A = ℕ} 0 1 = cc in omega arith)
 
--- src/lib.rt:305:1
 same-length-5 : tie.Need-same-length-5
 same-length-5 c = search needs
 
--- src/lib.rt:305:1
 returns-5 : tie.Need-returns-5
 returns-5 c = grown-refused _ _ _ _ _ _ (c .before .before .before .before .before .before .before .free-row .ensures) _ (c .before .before .before .before .before .at .given .1) _ (sym (c .enum-told5 .given .1) ∙ c .before .before .region-fault .ensures) (λ e. let z : _≡_ {A = ℕ} 0 1 = cc in omega arith)
 
--- src/lib.rt:305:1
 same-length-6 : tie.Need-same-length-6
 same-length-6 c = search needs
 
--- src/lib.rt:305:1
 returns-6 : tie.Need-returns-6
 returns-6 c = grown-refused _ _ _ _ _ _ (c .before .before .before .before .before .before .before .free-row .ensures) _ (c .before .before .before .before .before .at .given .1) _ (sym (c .enum-told6 .given .1) ∙ c .before .before .region-fault .ensures) (λ e. let z : _≡_ {A = ℕ} 0 1 = cc in omega arith)
 
--- src/lib.rt:305:1
 same-length-7 : tie.Need-same-length-7
 same-length-7 c = search needs
 
--- src/lib.rt:305:1
 returns-7 : tie.Need-returns-7
 returns-7 c = grown-full _ _ _ _ _ _ (c .before .before .free-row .ensures) (c .enum-told7 .given .1)
 

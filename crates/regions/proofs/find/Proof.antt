@@ -1,15 +1,12 @@
 -- SPDX-License-Identifier: Apache-2.0 AND BSD-3-Clause
 use borrow.Author.Needs.{needs}
-use Prim.Native.Nat.{ℕ, _+_, _≤_}
+use Prim.Native.Nat.{_+_, _≤_}
 use native.Mathlib.Omega.{arith}
 use mathlib.Core.Path.{_≡_, sym, _∙_}
 use lib.ListN.{length}
 use Rattle.regions.specs.Table.{stretchOf, stretchIn, left, left-none, left-short, stretch-all, stretch-nil, stretch-row}
 use Rattle.regions.proofs.find.Statement.{statement}
 use Rattle.regions.proofs.find.Tie as tie
-use Rattle.regions.proofs.find.Reads as reads
-use Rattle.regions.proofs.find.Lts as lts
-use Rattle.regions.proofs.row_from.Reads as row-from-reads
 
 abbrev Inv-loop : tie.InvT-loop
 Inv-loop regions size a at₀ rows₀ at rows = (at ≤ length regions) × (stretchOf regions size a ≡ stretchIn (left rows at regions) size a)
@@ -17,87 +14,67 @@ Inv-loop regions size a at₀ rows₀ at rows = (at ≤ length regions) × (stre
 abbrev μ-loop : tie.MeasureT-loop
 μ-loop regions size a at₀ rows₀ at rows = rows
 
--- src/lib.rt:72:5
 loop-holds : tie.Need-loop-holds Inv-loop μ-loop
 loop-holds c = (search needs, stretch-all _ _ _)
 
--- src/lib.rt:73:12
 sub-if1 : tie.Need-sub-if1 Inv-loop μ-loop
 sub-if1 c = search needs
 
--- src/lib.rt:74:13
 returns : tie.Need-returns Inv-loop μ-loop
 returns c = sym (c .before .before .loop .inv .1 ∙ stretch-nil _ _ _ (left-short _ _ _ (c .if1 .taken)))
 
--- src/lib.rt:76:24
 mul-row-from : tie.Need-mul-row-from Inv-loop μ-loop
 mul-row-from c = search needs
 
--- src/lib.rt:76:24
 shared-slice-read-row-from : tie.Need-shared-slice-read-row-from Inv-loop μ-loop
 shared-slice-read-row-from c = search needs
 
--- src/lib.rt:76:45
 add-row-from : tie.Need-add-row-from Inv-loop μ-loop
 add-row-from c = search needs
 
--- src/lib.rt:76:37
 mul-row-from-2 : tie.Need-mul-row-from-2 Inv-loop μ-loop
 mul-row-from-2 c = search needs
 
--- src/lib.rt:76:37
 shared-slice-read-row-from-2 : tie.Need-shared-slice-read-row-from-2 Inv-loop μ-loop
 shared-slice-read-row-from-2 c = search needs
 
--- src/lib.rt:76:62
 add-row-from-2 : tie.Need-add-row-from-2 Inv-loop μ-loop
 add-row-from-2 c = search needs
 
--- src/lib.rt:76:54
 mul-row-from-3 : tie.Need-mul-row-from-3 Inv-loop μ-loop
 mul-row-from-3 c = search needs
 
--- src/lib.rt:76:54
 shared-slice-read-row-from-3 : tie.Need-shared-slice-read-row-from-3 Inv-loop μ-loop
 shared-slice-read-row-from-3 c = search needs
 
--- src/lib.rt:76:15
 row-from-requires : tie.Need-row-from-requires Inv-loop μ-loop
 row-from-requires c κs = search needs
 
--- src/lib.rt:77:26
 enum-known-i : tie.Need-enum-known-i Inv-loop μ-loop
 enum-known-i c = search needs
 
--- src/lib.rt:78:17
 returns-2 : tie.Need-returns-2 Inv-loop μ-loop
 returns-2 c = let l = c .before .before .before .before .before .before .before .before .before .loop in
     let h : l .at + 3 ≤ length (c .before .before .before .before .before .before .before .before .before .before .before .args .regions .now) = omega arith in
     sym (l .inv .1 ∙ stretch-row _ _ _ _ _ (omega arith) h _ (sym (c .before .i .given .1) ∙ c .before .before .before .row-from .ensures))
 
--- src/lib.rt:81:17
 enum-told : tie.Need-enum-told Inv-loop μ-loop
 enum-told c = search needs
 
--- src/lib.rt:81:17
 add-at : tie.Need-add-at Inv-loop μ-loop
 add-at c = search needs
 
--- src/lib.rt:82:17
 sub-rows : tie.Need-sub-rows Inv-loop μ-loop
 sub-rows c = search needs
 
--- src/lib.rt:72:5
 loop-less : tie.Need-loop-less Inv-loop μ-loop
 loop-less c = search needs
 
--- src/lib.rt:72:5
 loop-again : tie.Need-loop-again Inv-loop μ-loop
 loop-again c = let l = c .before .before .before .before .before .before .before .before .loop in
     let h : l .at + 3 ≤ length (c .before .before .before .before .before .before .before .before .before .before .args .regions .now) = omega arith in
     (search needs, l .inv .1 ∙ stretch-row _ _ _ _ _ (omega arith) h _ (sym (c .enum-told .given .1) ∙ c .before .before .row-from .ensures))
 
--- src/lib.rt:67:1
 returns-3 : tie.Need-returns-3 Inv-loop μ-loop
 returns-3 c = sym (c .before .loop .inv .1 ∙ stretch-nil _ _ _ (left-none _ _ _ (omega arith)))
 

@@ -1,14 +1,11 @@
 -- SPDX-License-Identifier: Apache-2.0 AND BSD-3-Clause
 use borrow.Author.Needs.{needs}
-use Prim.Native.Nat.{ℕ, _+_, _≤_, _<_}
+use Prim.Native.Nat.{_+_, _≤_, _<_}
 use native.Mathlib.Omega.{arith}
 use lib.ListN.{length}
 use Rattle.regions.specs.Spots.{Skipped, skipped-start, skipped-next, skipped-here, seated, unseated}
 use Rattle.regions.proofs.find_run.Statement.{statement}
 use Rattle.regions.proofs.find_run.Tie as tie
-use Rattle.regions.proofs.find_run.Reads as reads
-use Rattle.regions.proofs.find_run.Lts as lts
-use Rattle.regions.proofs.side_of.Reads as side-of-reads
 
 abbrev Inv-loop : tie.InvT-loop
 Inv-loop regions size a n at₀ rows₀ at rows = (at ≤ length regions) × Skipped regions size a n rows at
@@ -16,59 +13,45 @@ Inv-loop regions size a n at₀ rows₀ at rows = (at ≤ length regions) × Ski
 abbrev μ-loop : tie.MeasureT-loop
 μ-loop regions size a n at₀ rows₀ at rows = rows
 
--- src/lib.rt:132:5
 loop-holds : tie.Need-loop-holds Inv-loop μ-loop
 loop-holds c = (search needs, skipped-start _ _ _ _)
 
--- src/lib.rt:133:12
 sub-if1 : tie.Need-sub-if1 Inv-loop μ-loop
 sub-if1 c = search needs
 
--- src/lib.rt:134:13
 returns : tie.Need-returns Inv-loop μ-loop
 returns c = unseated _ _ _ _
 
--- src/lib.rt:136:23
 mul-side-of : tie.Need-mul-side-of Inv-loop μ-loop
 mul-side-of c = search needs
 
--- src/lib.rt:136:23
 shared-slice-read-side-of : tie.Need-shared-slice-read-side-of Inv-loop μ-loop
 shared-slice-read-side-of c = search needs
 
--- src/lib.rt:136:44
 add-side-of : tie.Need-add-side-of Inv-loop μ-loop
 add-side-of c = search needs
 
--- src/lib.rt:136:36
 mul-side-of-2 : tie.Need-mul-side-of-2 Inv-loop μ-loop
 mul-side-of-2 c = search needs
 
--- src/lib.rt:136:36
 shared-slice-read-side-of-2 : tie.Need-shared-slice-read-side-of-2 Inv-loop μ-loop
 shared-slice-read-side-of-2 c = search needs
 
--- src/lib.rt:136:61
 add-side-of-2 : tie.Need-add-side-of-2 Inv-loop μ-loop
 add-side-of-2 c = search needs
 
--- src/lib.rt:136:53
 mul-side-of-3 : tie.Need-mul-side-of-3 Inv-loop μ-loop
 mul-side-of-3 c = search needs
 
--- src/lib.rt:136:53
 shared-slice-read-side-of-3 : tie.Need-shared-slice-read-side-of-3 Inv-loop μ-loop
 shared-slice-read-side-of-3 c = search needs
 
--- src/lib.rt:136:15
 side-of-requires : tie.Need-side-of-requires Inv-loop μ-loop
 side-of-requires c κs = search needs
 
--- src/lib.rt:137:23
 enum-known-i : tie.Need-enum-known-i Inv-loop μ-loop
 enum-known-i c = search needs
 
--- src/lib.rt:138:17
 returns-2 : tie.Need-returns-2 Inv-loop μ-loop
 returns-2 c = let l = c .before .before .before .before .before .before .before .before .before .loop in
     let h : l .at + 3 ≤ length (c .before .before .before .before .before .before .before .before .before .before .before .args .regions .now) = omega arith in
@@ -77,38 +60,30 @@ returns-2 c = let l = c .before .before .before .before .before .before .before 
     let v = w .all _ (c .before .i .given .1) in
     seated _ _ _ _ _ (omega arith) (skipped-here _ _ _ _ _ _ z h (l .inv .1) _ w _ (c .before .i .given .1))
 
--- src/lib.rt:141:17
 enum-told : tie.Need-enum-told Inv-loop μ-loop
 enum-told c = search needs
 
--- src/lib.rt:141:17
 add-at : tie.Need-add-at Inv-loop μ-loop
 add-at c = search needs
 
--- src/lib.rt:142:17
 sub-rows : tie.Need-sub-rows Inv-loop μ-loop
 sub-rows c = search needs
 
--- src/lib.rt:132:5
 loop-less : tie.Need-loop-less Inv-loop μ-loop
 loop-less c = search needs
 
--- src/lib.rt:132:5
 loop-again : tie.Need-loop-again Inv-loop μ-loop
 loop-again c = let l = c .before .before .before .before .before .before .before .before .loop in
     let h : l .at + 3 ≤ length (c .before .before .before .before .before .before .before .before .before .before .args .regions .now) = omega arith in
     let z : 0 < l .rows = omega arith in
     (search needs, skipped-next _ _ _ _ _ _ z h (l .inv .1) _ (c .before .before .side-of .ensures) (c .enum-told .given .1))
 
--- src/lib.rt:145:17
 enum-told-2 : tie.Need-enum-told-2 Inv-loop μ-loop
 enum-told-2 c = search needs
 
--- src/lib.rt:145:17
 returns-3 : tie.Need-returns-3 Inv-loop μ-loop
 returns-3 c = unseated _ _ _ _
 
--- src/lib.rt:126:1
 returns-4 : tie.Need-returns-4 Inv-loop μ-loop
 returns-4 c = unseated _ _ _ _
 

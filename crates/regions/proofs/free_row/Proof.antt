@@ -2,14 +2,12 @@
 use borrow.Author.Needs.{needs}
 use Prim.Native.Nat.{_+_, _≤_}
 use native.Mathlib.Omega.{arith}
-use mathlib.Core.Path.{_≡_, sym, ap, _∙_}
+use mathlib.Core.Path.{_≡_, sym, _∙_}
 use lib.ListN.{length}
 use Rattle.regions.specs.Grow.{freeOf, freeIn, shift, free-all, free-nil, free-here, free-next}
 use Rattle.regions.specs.Table.{left, left-none, left-short}
 use Rattle.regions.proofs.free_row.Statement.{statement}
 use Rattle.regions.proofs.free_row.Tie as tie
-use Rattle.regions.proofs.free_row.Reads as reads
-use Rattle.regions.proofs.free_row.Lts as lts
 
 abbrev Inv-loop : tie.InvT-loop
 Inv-loop regions at₀ rows₀ at rows = (at ≤ length regions) × (freeOf regions ≡ shift at (freeIn (left rows at regions)))
@@ -17,51 +15,39 @@ Inv-loop regions at₀ rows₀ at rows = (at ≤ length regions) × (freeOf regi
 abbrev μ-loop : tie.MeasureT-loop
 μ-loop regions at₀ rows₀ at rows = rows
 
--- src/lib.rt:253:5
 loop-holds : tie.Need-loop-holds Inv-loop μ-loop
 loop-holds c = (search needs, free-all _)
 
--- src/lib.rt:254:12
 sub-if1 : tie.Need-sub-if1 Inv-loop μ-loop
 sub-if1 c = search needs
 
--- src/lib.rt:255:13
 returns : tie.Need-returns Inv-loop μ-loop
 returns c = sym (c .before .before .loop .inv .1 ∙ free-nil _ _ (left-short _ _ _ (c .if1 .taken)))
 
--- src/lib.rt:257:20
 add-if2 : tie.Need-add-if2 Inv-loop μ-loop
 add-if2 c = search needs
 
--- src/lib.rt:257:12
 mul-if2 : tie.Need-mul-if2 Inv-loop μ-loop
 mul-if2 c = search needs
 
--- src/lib.rt:257:12
 shared-slice-read-if2 : tie.Need-shared-slice-read-if2 Inv-loop μ-loop
 shared-slice-read-if2 c = search needs
 
--- src/lib.rt:258:13
 returns-2 : tie.Need-returns-2 Inv-loop μ-loop
 returns-2 c = let l = c .before .before .before .before .loop in let h : l .at + 3 ≤ length (c .before .before .before .before .before .args .regions .now) = omega arith in sym (l .inv .1 ∙ free-here _ _ _ (omega arith) h (c .if2 .taken))
 
--- src/lib.rt:260:9
 add-at : tie.Need-add-at Inv-loop μ-loop
 add-at c = search needs
 
--- src/lib.rt:261:9
 sub-rows : tie.Need-sub-rows Inv-loop μ-loop
 sub-rows c = search needs
 
--- src/lib.rt:253:5
 loop-less : tie.Need-loop-less Inv-loop μ-loop
 loop-less c = search needs
 
--- src/lib.rt:253:5
 loop-again : tie.Need-loop-again Inv-loop μ-loop
 loop-again c = let l = c .before .before .before .before .loop in let h : l .at + 3 ≤ length (c .before .before .before .before .before .args .regions .now) = omega arith in (search needs, l .inv .1 ∙ free-next _ _ _ (omega arith) h (c .if2 .left))
 
--- src/lib.rt:248:1
 returns-3 : tie.Need-returns-3 Inv-loop μ-loop
 returns-3 c = sym (c .before .loop .inv .1 ∙ free-nil _ _ (left-none _ _ _ (omega arith)))
 

@@ -3,31 +3,22 @@ use borrow.Author.Needs.{needs}
 use Rattle.regions.specs.Spots.{unseated}
 use Rattle.regions.proofs.locate.Statement.{statement}
 use Rattle.regions.proofs.locate.Tie as tie
-use Rattle.regions.proofs.locate.Reads as reads
-use Rattle.regions.proofs.locate.Lts as lts
-use Rattle.regions.proofs.find_run.Reads as find-run-reads
 
--- src/lib.rt:157:17
 add-reach : tie.Need-add-reach
 add-reach c = search needs
 
--- src/lib.rt:158:8
 sub-if1 : tie.Need-sub-if1
 sub-if1 c = search needs
 
--- src/lib.rt:159:9
 returns : tie.Need-returns
 returns c = unseated _ _ _ _
 
--- src/lib.rt:161:29
 add-find-run : tie.Need-add-find-run
 add-find-run c = search needs
 
--- src/lib.rt:161:5
 find-run-requires : tie.Need-find-run-requires
 find-run-requires c κs = search needs
 
--- src/lib.rt:154:1
 returns-2 : tie.Need-returns-2
 returns-2 c = search needs
 

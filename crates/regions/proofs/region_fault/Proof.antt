@@ -1,47 +1,35 @@
 -- SPDX-License-Identifier: Apache-2.0 AND BSD-3-Clause
 use borrow.Author.Needs.{needs}
 use native.Mathlib.Omega.{arith}
-use mathlib.Core.Path.{_≡_, sym, ap, _∙_}
+use mathlib.Core.Path.{sym}
 use Rattle.regions.specs.Grow.{fault-empty, fault-top, fault-slice, fault-overlap, fault-none}
 use Rattle.regions.proofs.region_fault.Statement.{statement}
 use Rattle.regions.proofs.region_fault.Tie as tie
-use Rattle.regions.proofs.region_fault.Reads as reads
-use Rattle.regions.proofs.region_fault.Lts as lts
-use Rattle.regions.proofs.shares_any.Reads as shares-any-reads
 
--- src/lib.rt:276:9
 returns : tie.Need-returns
 returns c = sym (fault-empty _ _ _ _ _ (c .if1 .taken))
 
--- src/lib.rt:278:8
 sub-if2 : tie.Need-sub-if2
 sub-if2 c = search needs
 
--- src/lib.rt:278:26
 sub-if2-2 : tie.Need-sub-if2-2
 sub-if2-2 c = search needs
 
--- src/lib.rt:279:9
 returns-2 : tie.Need-returns-2
 returns-2 c = sym (fault-top _ _ _ _ _ (c .before .if1 .left) (omega arith))
 
--- src/lib.rt:283:9
 returns-3 : tie.Need-returns-3
 returns-3 c = sym (fault-slice _ _ _ _ _ (c .before .before .if1 .left) (omega arith) (omega arith))
 
--- src/lib.rt:286:9
 returns-4 : tie.Need-returns-4
 returns-4 c = sym (fault-slice _ _ _ _ _ (c .before .before .before .if1 .left) (omega arith) (omega arith))
 
--- src/lib.rt:288:8
 shares-any-requires : tie.Need-shares-any-requires
 shares-any-requires c κs = search needs
 
--- src/lib.rt:289:9
 returns-5 : tie.Need-returns-5
 returns-5 c = sym (fault-overlap _ _ _ _ _ (c .before .before .before .before .before .if1 .left) (omega arith) (omega arith) _ (c .before .shares-any .ensures) (c .if5 .taken))
 
--- src/lib.rt:272:1
 returns-6 : tie.Need-returns-6
 returns-6 c = sym (fault-none _ _ _ _ _ (c .before .before .before .before .before .if1 .left) (omega arith) (omega arith) _ (c .before .shares-any .ensures) (c .if5 .left))
 

@@ -1,39 +1,30 @@
 -- SPDX-License-Identifier: Apache-2.0 AND BSD-3-Clause
 use borrow.Author.Needs.{needs}
 use native.Mathlib.Omega.{arith}
-use mathlib.Core.Path.{_≡_, sym, ap, _∙_}
+use mathlib.Core.Path.{sym}
 use Rattle.regions.specs.Table.{row}
 use Rattle.regions.specs.Grow.{shares-low, shares-high, apart-low, apart-high, apart-none, apart-free}
 use Rattle.regions.proofs.row_shares.Statement.{statement}
 use Rattle.regions.proofs.row_shares.Tie as tie
-use Rattle.regions.proofs.row_shares.Reads as reads
-use Rattle.regions.proofs.row_shares.Lts as lts
 
--- src/lib.rt:217:9
 returns : tie.Need-returns
 returns c = let a = c .before .args in sym (apart-none (row (a .rbase) (a .rlen) 0) (a .base) (a .len) (c .if1 .taken))
 
--- src/lib.rt:220:9
 returns-2 : tie.Need-returns-2
 returns-2 c = let a = c .before .before .args in sym (apart-free (row (a .rbase) (a .rlen) 0) (a .base) (a .len) (c .if2 .taken))
 
--- src/lib.rt:223:12
 sub-if4 : tie.Need-sub-if4
 sub-if4 c = search needs
 
--- src/lib.rt:224:13
 returns-3 : tie.Need-returns-3
 returns-3 c = let a = c .before .before .before .before .args in sym (shares-high (row (a .rbase) (a .rlen) 0) (a .base) (a .len) (omega arith) (omega arith) (omega arith))
 
--- src/lib.rt:226:9
 returns-4 : tie.Need-returns-4
 returns-4 c = let a = c .before .before .before .before .args in sym (apart-high (row (a .rbase) (a .rlen) 0) (a .base) (a .len) (omega arith) (omega arith))
 
--- src/lib.rt:229:9
 returns-5 : tie.Need-returns-5
 returns-5 c = let a = c .before .before .before .before .args in sym (shares-low (row (a .rbase) (a .rlen) 0) (a .base) (a .len) (omega arith) (omega arith) (omega arith))
 
--- src/lib.rt:213:1
 returns-6 : tie.Need-returns-6
 returns-6 c = let a = c .before .before .before .before .args in sym (apart-low (row (a .rbase) (a .rlen) 0) (a .base) (a .len) (omega arith) (omega arith))
 

@@ -5,47 +5,34 @@ use Rattle.regions.specs.Spots.{sided-all, sided-away, sided-split}
 use Rattle.regions.specs.Table.{row, extent-fits}
 use Rattle.regions.proofs.side_of.Statement.{statement}
 use Rattle.regions.proofs.side_of.Tie as tie
-use Rattle.regions.proofs.side_of.Reads as reads
-use Rattle.regions.proofs.side_of.Lts as lts
-use Rattle.regions.proofs.least.Reads as least-reads
 
--- src/lib.rt:105:9
 returns : tie.Need-returns
 returns c = let a = c .before .args in let f = extent-fits (row (a .base) (a .len) (a .offset)) (a .size) in sided-away _ _ _ _ (λ x i u v q. omega arith)
 
--- src/lib.rt:108:9
 least-requires : tie.Need-least-requires
 least-requires c κs = search needs
 
--- src/lib.rt:110:17
 sub-if3 : tie.Need-sub-if3
 sub-if3 c = search needs
 
--- src/lib.rt:111:13
 returns-2 : tie.Need-returns-2
 returns-2 c = let a = c .before .before .before .before .args in let f = extent-fits (row (a .base) (a .len) (a .offset)) (a .size) in sided-away _ _ _ _ (λ x i u v q. omega arith)
 
--- src/lib.rt:113:9
 returns-3 : tie.Need-returns-3
 returns-3 c = sided-split _ _ _ _
 
--- src/lib.rt:117:9
 returns-4 : tie.Need-returns-4
 returns-4 c = let a = c .before .before .before .before .args in let f = extent-fits (row (a .base) (a .len) (a .offset)) (a .size) in sided-away _ _ _ _ (λ x i u v q. omega arith)
 
--- src/lib.rt:119:8
 sub-if5 : tie.Need-sub-if5
 sub-if5 c = search needs
 
--- src/lib.rt:120:9
 returns-5 : tie.Need-returns-5
 returns-5 c = sided-split _ _ _ _
 
--- src/lib.rt:122:16
 add-t14 : tie.Need-add-t14
 add-t14 c = search needs
 
--- src/lib.rt:99:1
 returns-6 : tie.Need-returns-6
 returns-6 c = sided-all _ _ _ _ _ (omega arith) (omega arith) (omega arith) (omega arith) (omega arith)
 

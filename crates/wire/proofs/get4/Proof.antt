@@ -4,39 +4,28 @@ use native.Mathlib.Omega.{arith}
 use Rattle.wire.specs.Number.{number-part}
 use Rattle.wire.proofs.get4.Statement.{statement}
 use Rattle.wire.proofs.get4.Tie as tie
-use Rattle.wire.proofs.get4.Reads as reads
-use Rattle.wire.proofs.get4.Lts as lts
-use Rattle.wire.proofs.get2.Reads as get2-reads
 
--- src/lib.rt:28:15
 get2-requires : tie.Need-get2-requires
 get2-requires c κs = search needs
 
--- src/lib.rt:28:15
 cast-low : tie.Need-cast-low
 cast-low c = search needs
 
--- src/lib.rt:29:24
 add-get2 : tie.Need-add-get2
 add-get2 c = search needs
 
--- src/lib.rt:29:16
 get2-requires-2 : tie.Need-get2-requires-2
 get2-requires-2 c κs = search needs
 
--- src/lib.rt:29:16
 cast-high : tie.Need-cast-high
 cast-high c = search needs
 
--- src/lib.rt:30:11
 mul-result : tie.Need-mul-result
 mul-result c = search needs
 
--- src/lib.rt:30:5
 add-result : tie.Need-add-result
 add-result c = search needs
 
--- src/lib.rt:24:1
 returns : tie.Need-returns
 returns c = omega (arith, number-part (c .before .before .before .args .s .now) (c .before .before .before .args .i) 2 2 (omega arith))
 

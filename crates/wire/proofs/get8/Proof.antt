@@ -4,39 +4,28 @@ use native.Mathlib.Omega.{arith}
 use Rattle.wire.specs.Number.{number-part}
 use Rattle.wire.proofs.get8.Statement.{statement}
 use Rattle.wire.proofs.get8.Tie as tie
-use Rattle.wire.proofs.get8.Reads as reads
-use Rattle.wire.proofs.get8.Lts as lts
-use Rattle.wire.proofs.get4.Reads as get4-reads
 
--- src/lib.rt:37:15
 get4-requires : tie.Need-get4-requires
 get4-requires c κs = search needs
 
--- src/lib.rt:37:15
 cast-low : tie.Need-cast-low
 cast-low c = search needs
 
--- src/lib.rt:38:24
 add-get4 : tie.Need-add-get4
 add-get4 c = search needs
 
--- src/lib.rt:38:16
 get4-requires-2 : tie.Need-get4-requires-2
 get4-requires-2 c κs = search needs
 
--- src/lib.rt:38:16
 cast-high : tie.Need-cast-high
 cast-high c = search needs
 
--- src/lib.rt:39:11
 mul-result : tie.Need-mul-result
 mul-result c = search needs
 
--- src/lib.rt:39:5
 add-result : tie.Need-add-result
 add-result c = search needs
 
--- src/lib.rt:33:1
 returns : tie.Need-returns
 returns c = omega (arith, number-part (c .before .before .before .args .s .now) (c .before .before .before .args .i) 4 4 (omega arith))
 

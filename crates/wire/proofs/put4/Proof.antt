@@ -1,38 +1,27 @@
 -- SPDX-License-Identifier: Apache-2.0 AND BSD-3-Clause
 use borrow.Author.Needs.{needs}
-use mathlib.Core.Path.{ap, _∙_}
 use Rattle.wire.specs.Number.{sets-bytes}
 use Rattle.wire.proofs.put4.Statement.{statement}
 use Rattle.wire.proofs.put4.Tie as tie
-use Rattle.wire.proofs.put4.Reads as reads
-use Rattle.wire.proofs.put4.Lts as lts
-use Rattle.wire.proofs.put2.Reads as put2-reads
 
--- src/lib.rt:54:16
 cast-put2 : tie.Need-cast-put2
 cast-put2 c = search needs
 
--- src/lib.rt:54:5
 put2-requires : tie.Need-put2-requires
 put2-requires c κs = search needs
 
--- src/lib.rt:55:13
 add-put2 : tie.Need-add-put2
 add-put2 c = search needs
 
--- src/lib.rt:55:20
 cast-put2-2 : tie.Need-cast-put2-2
 cast-put2-2 c = search needs
 
--- src/lib.rt:55:5
 put2-requires-2 : tie.Need-put2-requires-2
 put2-requires-2 c κs = search needs
 
--- src/lib.rt:50:1
 same-length : tie.Need-same-length
 same-length c = search needs
 
--- src/lib.rt:50:1
 returns : tie.Need-returns
 returns c = cc (sets-bytes (c .before .before .before .before .before .before .before .before .before .args .s .now) (c .before .before .before .before .before .before .before .before .before .args .i) 2 2 (c .before .before .before .before .before .before .before .before .before .args .v))
 
