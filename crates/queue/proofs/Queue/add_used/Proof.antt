@@ -1,0 +1,48 @@
+-- SPDX-License-Identifier: Apache-2.0 AND BSD-3-Clause
+use borrow.Author.Tests.{not-true, not-false}
+use borrow.Author.Needs.{needs}
+use Rattle.queue.specs.Used.{put-beyond, placed-refused, placed-done}
+use Rattle.queue.proofs.Queue.add_used.Statement.{statement}
+use Rattle.queue.proofs.Queue.add_used.Tie as tie
+use Rattle.queue.proofs.Queue.add_used.Reads as reads
+use Rattle.queue.proofs.Queue.add_used.Lts as lts
+use Rattle.queue.proofs.ring.used_entry_offset.Reads as used-entry-offset-reads
+use Rattle.queue.proofs.used.grown_queue.Reads as grown-queue-reads
+use Rattle.queue.proofs.used.publish.Reads as publish-reads
+
+returns : tie.Need-returns
+returns c = put-beyond _ _ _ _ _ (c .if1 .taken)
+
+used-entry-offset-requires : tie.Need-used-entry-offset-requires
+used-entry-offset-requires c κs = search needs
+
+grown-queue-requires : tie.Need-grown-queue-requires
+grown-queue-requires c κs = search needs
+
+publish-requires : tie.Need-publish-requires
+publish-requires c κs = search needs
+
+same-length : tie.Need-same-length
+same-length c = search needs
+
+returns-2 : tie.Need-returns-2
+returns-2 c = placed-refused _ _ _ _ _ (c .before .before .before .before .before .before .before .if1 .left) _ (c .before .before .before .before .before .before .used-entry-offset .ensures) _ (c .before .before .before .before .before .grown-queue .ensures) _ _ (c .before .before .before .publish .ensures) (not-true _ (c .if2 .taken))
+
+same-length-2 : tie.Need-same-length-2
+same-length-2 c = search needs
+
+returns-3 : tie.Need-returns-3
+returns-3 c = placed-done _ _ _ _ _ (c .before .before .before .before .before .before .before .if1 .left) _ (c .before .before .before .before .before .before .used-entry-offset .ensures) _ (c .before .before .before .before .before .grown-queue .ensures) _ _ (c .before .before .before .publish .ensures) (not-false _ (c .if2 .left))
+
+pub add-used-spec : {M : Type 1} → statement M
+add-used-spec =
+    tie.close
+    (tie.spec
+    returns
+    used-entry-offset-requires
+    grown-queue-requires
+    publish-requires
+    same-length
+    returns-2
+    same-length-2
+    returns-3)

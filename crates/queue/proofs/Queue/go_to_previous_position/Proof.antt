@@ -1,0 +1,17 @@
+-- SPDX-License-Identifier: Apache-2.0 AND BSD-3-Clause
+use borrow.Author.Needs.{needs}
+use Rattle.queue.specs.Avail.{back-is}
+use Rattle.queue.proofs.Queue.go_to_previous_position.Statement.{statement}
+use Rattle.queue.proofs.Queue.go_to_previous_position.Tie as tie
+use Rattle.queue.proofs.Queue.go_to_previous_position.Reads as reads
+use Rattle.queue.proofs.Queue.go_to_previous_position.Lts as lts
+use Rattle.queue.proofs.ring.minus.Reads as minus-reads
+
+minus-requires : tie.Need-minus-requires
+minus-requires c κs = search needs
+
+returns : tie.Need-returns
+returns c = back-is _ _ (c .minus .ensures)
+
+pub go-to-previous-position-spec : {M : Type 1} → statement M
+go-to-previous-position-spec = tie.close (tie.spec minus-requires returns)

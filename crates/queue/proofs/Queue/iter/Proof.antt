@@ -1,0 +1,29 @@
+-- SPDX-License-Identifier: Apache-2.0 AND BSD-3-Clause
+use borrow.Author.Tests.{not-true, not-false}
+use borrow.Author.Needs.{needs}
+use mathlib.Core.Path.{sym, _∙_}
+use Rattle.queue.specs.Avail.{begin-not-ready, begin-no-ring, begin-on}
+use Rattle.queue.proofs.Queue.iter.Statement.{statement}
+use Rattle.queue.proofs.Queue.iter.Tie as tie
+use Rattle.queue.proofs.Queue.iter.Reads as reads
+use Rattle.queue.proofs.Queue.iter.Lts as lts
+use Rattle.queue.proofs.Queue.avail_idx.Reads as avail-idx-reads
+use Rattle.queue.proofs.avail.begun_on.Reads as begun-on-reads
+
+returns : tie.Need-returns
+returns c = sym (begin-not-ready _ _ _ (not-true _ (c .if1 .taken)))
+
+returns-2 : tie.Need-returns-2
+returns-2 c = sym (begin-no-ring _ _ _ (c .if2 .taken))
+
+avail-idx-requires : tie.Need-avail-idx-requires
+avail-idx-requires c κs = search needs
+
+begun-on-requires : tie.Need-begun-on-requires
+begun-on-requires c κs = search needs
+
+returns-3 : tie.Need-returns-3
+returns-3 c = begin-on _ _ _ (not-false _ (c .before .before .before .before .if1 .left)) (c .before .before .if2 .left) _ (c .before .avail-idx .ensures) _ (c .begun-on .ensures)
+
+pub iter-spec : {M : Type 1} → statement M
+iter-spec = tie.close (tie.spec returns returns-2 avail-idx-requires begun-on-requires returns-3)

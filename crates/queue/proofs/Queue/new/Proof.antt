@@ -1,0 +1,25 @@
+-- SPDX-License-Identifier: Apache-2.0 AND BSD-3-Clause
+use borrow.Author.Tests.{not-true, not-false}
+use borrow.Author.Needs.{needs}
+use Rattle.queue.specs.Config.{new-refused, new-made}
+use Rattle.queue.proofs.Queue.new.Statement.{statement}
+use Rattle.queue.proofs.Queue.new.Tie as tie
+use Rattle.queue.proofs.Queue.new.Reads as reads
+use Rattle.queue.proofs.Queue.new.Lts as lts
+use Rattle.queue.proofs.config.fresh_queue.Reads as fresh-queue-reads
+use Rattle.queue.proofs.ring.good_size.Reads as good-size-reads
+
+good-size-requires : tie.Need-good-size-requires
+good-size-requires c κs = search needs
+
+returns : tie.Need-returns
+returns c = new-refused _ _ (c .before .good-size .ensures) (not-true _ (c .if1 .taken))
+
+fresh-queue-requires : tie.Need-fresh-queue-requires
+fresh-queue-requires c κs = search needs
+
+returns-2 : tie.Need-returns-2
+returns-2 c = new-made _ _ (c .before .before .good-size .ensures) (not-false _ (c .before .if1 .left)) _ (c .fresh-queue .ensures)
+
+pub new-spec : {M : Type 1} → statement M
+new-spec = tie.close (tie.spec good-size-requires returns fresh-queue-requires returns-2)

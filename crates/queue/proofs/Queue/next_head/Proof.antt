@@ -1,0 +1,40 @@
+-- SPDX-License-Identifier: Apache-2.0 AND BSD-3-Clause
+use borrow.Author.Needs.{needs}
+use mathlib.Core.Path.{sym, _∙_}
+use Rattle.queue.specs.Avail.{head-end, head-no-place, head-on}
+use Rattle.queue.proofs.Queue.next_head.Statement.{statement}
+use Rattle.queue.proofs.Queue.next_head.Tie as tie
+use Rattle.queue.proofs.Queue.next_head.Reads as reads
+use Rattle.queue.proofs.Queue.next_head.Lts as lts
+use Rattle.memory.proofs.read2.Reads as read2-reads
+use Rattle.queue.proofs.avail.taken_on.Reads as taken-on-reads
+use Rattle.queue.proofs.ring.avail_entry_offset.Reads as avail-entry-offset-reads
+
+returns : tie.Need-returns
+returns c = sym (head-end _ _ _ _ (c .if1 .taken))
+
+returns-2 : tie.Need-returns-2
+returns-2 c = sym (head-no-place _ _ _ _ (c .if2 .taken))
+
+avail-entry-offset-requires : tie.Need-avail-entry-offset-requires
+avail-entry-offset-requires c κs = search needs
+
+read2-requires : tie.Need-read2-requires
+read2-requires c κs = search needs
+
+taken-on-requires : tie.Need-taken-on-requires
+taken-on-requires c κs = search needs
+
+returns-3 : tie.Need-returns-3
+returns-3 c = head-on _ _ _ _ (c .before .before .before .before .before .if1 .left) (c .before .before .before .if2 .left) _ (c .before .before .avail-entry-offset .ensures) _ (c .before .read2 .ensures) _ (c .taken-on .ensures)
+
+pub next-head-spec : {M : Type 1} → statement M
+next-head-spec =
+    tie.close
+    (tie.spec
+    returns
+    returns-2
+    avail-entry-offset-requires
+    read2-requires
+    taken-on-requires
+    returns-3)

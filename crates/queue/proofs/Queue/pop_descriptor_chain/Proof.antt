@@ -1,0 +1,33 @@
+-- SPDX-License-Identifier: Apache-2.0 AND BSD-3-Clause
+use borrow.Author.Needs.{needs}
+use mathlib.Core.Path.{sym, _∙_}
+use Rattle.queue.specs.Avail.{pop-begun, pop-refused}
+use Rattle.queue.proofs.Queue.pop_descriptor_chain.Statement.{statement}
+use Rattle.queue.proofs.Queue.pop_descriptor_chain.Tie as tie
+use Rattle.queue.proofs.Queue.pop_descriptor_chain.Reads as reads
+use Rattle.queue.proofs.Queue.pop_descriptor_chain.Lts as lts
+use Rattle.queue.proofs.Queue.iter.Reads as iter-reads
+use Rattle.queue.proofs.Queue.next_head.Reads as next-head-reads
+
+iter-requires : tie.Need-iter-requires
+iter-requires c κs = search needs
+
+enum-known-pass : tie.Need-enum-known-pass
+enum-known-pass c = search needs
+
+next-head-requires : tie.Need-next-head-requires
+next-head-requires c κs = search needs
+
+enum-told : tie.Need-enum-told
+enum-told c = search needs
+
+returns : tie.Need-returns
+returns c = c .next-head .ensures ∙ sym (pop-begun _ _ _ _ (sym (c .before .before .before .before .iter .ensures) ∙ (c .before .before .pass .given .1)))
+
+returns-2 : tie.Need-returns-2
+returns-2 c = sym (pop-refused _ _ _ _ (sym (c .before .before .iter .ensures) ∙ c .enum-told .given .1))
+
+pub pop-descriptor-chain-spec : {M : Type 1} → statement M
+pop-descriptor-chain-spec =
+    tie.close
+    (tie.spec iter-requires enum-known-pass next-head-requires enum-told returns returns-2)

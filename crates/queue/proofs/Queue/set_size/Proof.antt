@@ -1,0 +1,21 @@
+-- SPDX-License-Identifier: Apache-2.0 AND BSD-3-Clause
+use borrow.Author.Tests.{not-true, not-false}
+use borrow.Author.Needs.{needs}
+use Rattle.queue.specs.Config.{setSize-refused, setSize-set}
+use Rattle.queue.proofs.Queue.set_size.Statement.{statement}
+use Rattle.queue.proofs.Queue.set_size.Tie as tie
+use Rattle.queue.proofs.Queue.set_size.Reads as reads
+use Rattle.queue.proofs.Queue.set_size.Lts as lts
+use Rattle.queue.proofs.ring.good_size.Reads as good-size-reads
+
+good-size-requires : tie.Need-good-size-requires
+good-size-requires c κs = search needs
+
+returns : tie.Need-returns
+returns c = setSize-refused _ _ _ (c .before .good-size .ensures) (not-true _ (c .if1 .taken))
+
+returns-2 : tie.Need-returns-2
+returns-2 c = setSize-set _ _ _ (c .before .good-size .ensures) (not-false _ (c .if1 .left))
+
+pub set-size-spec : {M : Type 1} → statement M
+set-size-spec = tie.close (tie.spec good-size-requires returns returns-2)

@@ -1,0 +1,30 @@
+-- SPDX-License-Identifier: Apache-2.0 AND BSD-3-Clause
+use borrow.Author.Needs.{needs}
+use Rattle.queue.specs.Avail.{begun-pass, begun-far, begun-fault}
+use Rattle.queue.proofs.avail.begun_on.Statement.{statement}
+use Rattle.queue.proofs.avail.begun_on.Tie as tie
+use Rattle.queue.proofs.avail.begun_on.Reads as reads
+use Rattle.queue.proofs.avail.begun_on.Lts as lts
+use Rattle.queue.proofs.ring.minus.Reads as minus-reads
+
+enum-known-got : tie.Need-enum-known-got
+enum-known-got c = search needs
+
+minus-requires : tie.Need-minus-requires
+minus-requires c κs = search needs
+
+enum-told : tie.Need-enum-told
+enum-told c = search needs
+
+returns : tie.Need-returns
+returns c = begun-pass _ _ _ _ (c .before .before .before .before .got .given .1) (c .before .before .minus .ensures) (c .if1 .taken)
+
+returns-2 : tie.Need-returns-2
+returns-2 c = begun-far _ _ _ _ (c .before .before .before .before .got .given .1) (c .before .before .minus .ensures) (c .if1 .left)
+
+returns-3 : tie.Need-returns-3
+returns-3 c = begun-fault _ _ (c .enum-told .given .1)
+
+pub begun-on-spec : {M : Type 1} → statement M
+begun-on-spec =
+    tie.close (tie.spec enum-known-got minus-requires enum-told returns returns-2 returns-3)

@@ -1,0 +1,21 @@
+-- SPDX-License-Identifier: Apache-2.0 AND BSD-3-Clause
+use borrow.Author.Needs.{needs}
+use native.Mathlib.Omega.{arith}
+use mathlib.Core.Path.{sym, _∙_}
+use Rattle.queue.specs.Size.{power-zero, power-test}
+use Rattle.queue.proofs.ring.is_power_of_two.Statement.{statement}
+use Rattle.queue.proofs.ring.is_power_of_two.Tie as tie
+use Rattle.queue.proofs.ring.is_power_of_two.Reads as reads
+use Rattle.queue.proofs.ring.is_power_of_two.Lts as lts
+
+returns : tie.Need-returns
+returns c = sym (power-zero _ (c .if1 .taken))
+
+sub-result : tie.Need-sub-result
+sub-result c = search needs
+
+returns-2 : tie.Need-returns-2
+returns-2 c = power-test (c .before .args .n) (omega arith) (omega arith)
+
+pub is-power-of-two-spec : {M : Type 1} → statement M
+is-power-of-two-spec = tie.close (tie.spec returns sub-result returns-2)

@@ -1,0 +1,18 @@
+-- SPDX-License-Identifier: Apache-2.0 AND BSD-3-Clause
+use borrow.Author.Needs.{needs}
+use native.Mathlib.Omega.{arith}
+use Rattle.queue.specs.Wrap.{is-sub16}
+use Rattle.queue.proofs.ring.minus.Statement.{statement}
+use Rattle.queue.proofs.ring.minus.Tie as tie
+use Rattle.queue.proofs.ring.minus.Reads as reads
+use Rattle.queue.proofs.ring.minus.Lts as lts
+use Rattle.std.proofs.num.wrapping_sub_u16.Reads as wrapping-sub-u16-reads
+
+wrapping-sub-u16-requires : tie.Need-wrapping-sub-u16-requires
+wrapping-sub-u16-requires c κs = search needs
+
+returns : tie.Need-returns
+returns c = is-sub16 _ _ _ (omega arith) (c .wrapping-sub-u16 .ensures)
+
+pub minus-spec : {M : Type 1} → statement M
+minus-spec = tie.close (tie.spec wrapping-sub-u16-requires returns)
