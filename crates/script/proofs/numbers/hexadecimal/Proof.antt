@@ -1,0 +1,25 @@
+-- SPDX-License-Identifier: Apache-2.0 AND BSD-3-Clause
+-- `script::numbers::hexadecimal` meets its contract: a word too short, one that does not start with `0`, and any other. Assumes nothing.
+use Rattle.script.specs.Numbers.{marked-short, marked-not, marked-zero}
+use borrow.Author.Needs.{needs}
+use Rattle.script.proofs.numbers.hexadecimal.Statement.{statement}
+use Rattle.script.proofs.numbers.hexadecimal.Tie as tie
+
+returns : tie.Need-returns
+returns c = marked-short _ (c .if1 .taken)
+
+shared-slice-read-if2 : tie.Need-shared-slice-read-if2
+shared-slice-read-if2 c = search needs
+
+returns-2 : tie.Need-returns-2
+returns-2 c = marked-not _ (c .if2 .taken)
+
+shared-slice-read-result : tie.Need-shared-slice-read-result
+shared-slice-read-result c = search needs
+
+returns-3 : tie.Need-returns-3
+returns-3 c = marked-zero _ (c .before .if2 .left)
+
+pub hexadecimal-spec : {M : Type 1} → statement M
+hexadecimal-spec =
+    tie.close (tie.spec returns shared-slice-read-if2 returns-2 shared-slice-read-result returns-3)

@@ -1,0 +1,41 @@
+-- SPDX-License-Identifier: Apache-2.0 AND BSD-3-Clause
+-- `script::numbers::read_number` meets its contract: a word beyond the line, an empty one, and any other. Assumes nothing.
+use mathlib.Core.Path.{sym, ap, _∙_}
+use Rattle.script.specs.Words.{wordBytes-past, wordBytes-empty, wordBytes-part}
+use Rattle.script.specs.Numbers.{numberOf, numberOf-nothing}
+use borrow.Author.Needs.{needs}
+use Rattle.script.proofs.numbers.read_number.Statement.{statement}
+use Rattle.script.proofs.numbers.read_number.Tie as tie
+
+returns : tie.Need-returns
+returns c = sym (ap numberOf (wordBytes-past _ _ _ (c .if1 .taken)) ∙ numberOf-nothing)
+
+returns-2 : tie.Need-returns-2
+returns-2 c = sym (ap numberOf (wordBytes-empty _ _ _ (c .before .if1 .left) (c .if2 .taken)) ∙ numberOf-nothing)
+
+sub-number-of : tie.Need-sub-number-of
+sub-number-of c = search needs
+
+part-number-of-start : tie.Need-part-number-of-start
+part-number-of-start c = search needs
+
+part-number-of-end : tie.Need-part-number-of-end
+part-number-of-end c = search needs
+
+number-of-requires : tie.Need-number-of-requires
+number-of-requires c κs = search needs
+
+returns-3 : tie.Need-returns-3
+returns-3 c = c .number-of .ensures ∙ sym (ap numberOf (wordBytes-part _ _ _ (c .before .before .before .if1 .left)))
+
+pub read-number-spec : {M : Type 1} → statement M
+read-number-spec =
+    tie.close
+    (tie.spec
+    returns
+    returns-2
+    sub-number-of
+    part-number-of-start
+    part-number-of-end
+    number-of-requires
+    returns-3)
