@@ -21,9 +21,30 @@ use Rattle.desc.specs.declared.Found.the-variants.{Desc, NoDesc}
 use Rattle.chain.specs.Sequence.{entry, Chain, last, more, sumMax, total, AllDirect, Lawful}
 use Rattle.chain.specs.Walk.{entry-in}
 use Rattle.chain.specs.Right.{lawful-yields, lawful-filtered}
-use Rattle.chain.specs.Links.{Listed, SameLength, linkFlags, link, linksFrom, links, stored, every, counted, below, differs, fresh, direct, canStore, layOf, isDone, WalksTo, LaidDown, In, sums, sumFits}
+use Rattle.chain.specs.Links.{Listed, linkFlags, link, linksFrom, links, stored, every, counted, below, differs, fresh, direct, canStore, layOf, isDone, WalksTo, LaidDown}
 use Rattle.chain.specs.declared.lay.Laid.{Laid}
 use Rattle.chain.specs.declared.lay.Laid.the-variants.{Done, BadCount, BadPlace, SamePlace, Indirect, TooLong, Unmapped}
+
+-- ---- what the functions below lay_chain need and find
+-- as many of each
+pub record SameLength (x : Listed) : Type 0 where
+  pub addrs : length (x .addrs) ≡ length (x .places)
+  pub lens : length (x .lens) ≡ length (x .places)
+  pub flags : length (x .flags) ≡ length (x .places)
+
+-- k is a place of each list
+pub record In (k : ℕ) (x : Listed) : Type 0 where
+  pub places : k < length (x .places)
+  pub addrs : k < length (x .addrs)
+  pub lens : k < length (x .lens)
+  pub flags : k < length (x .flags)
+
+unfoldable pub sums : List ℕ → ℕ → ℕ → ℕ
+sums ls zero k = 0
+sums ls (suc n) k = getD ls k 0 + sums ls n (suc k)
+
+abbrev pub sumFits : ℕ → Bool
+sumFits s = leb s sumMax
 
 left-suc : (n k : ℕ) → k < n → n - k ≡ suc (n - (k + 1))
 left-suc n k h = omega arith

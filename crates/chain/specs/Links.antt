@@ -1,6 +1,6 @@
 -- SPDX-License-Identifier: Apache-2.0 AND BSD-3-Clause
 -- Laying a chain (VIRTIO 1.2, 2.7.5, 2.7.13.1): the descriptors that are stored, the tests before, and what is said of the memory after: definitions only.
-use Prim.Native.Nat.{ℕ, zero, suc, _+_, _*_, _/_, _<_, _≤_}
+use Prim.Native.Nat.{ℕ, zero, suc, _+_, _*_, _/_}
 use mathlib.Core.Path.{_≡_}
 use mathlib.Core.Bool.{Bool, true, false, not}
 use mathlib.Core.List.{List, [], _∷_}
@@ -51,11 +51,6 @@ stored t table x (suc n) k m = stored t table x n (suc k) (after t m (descAddr t
 unfoldable pub every : (ℕ → Bool) → ℕ → ℕ → Bool
 every p zero k = true
 every p (suc n) k = pick (p k) (every p n (suc k)) false
-
-pub record SameLength (x : Listed) : Type 0 where
-  pub addrs : length (x .addrs) ≡ length (x .places)
-  pub lens : length (x .lens) ≡ length (x .places)
-  pub flags : length (x .flags) ≡ length (x .places)
 
 -- at least one, at most as many as the table has, and as many of each
 unfoldable pub counted : ℕ → Listed → Bool
@@ -114,17 +109,3 @@ pub record LaidDown (t : Table) (m : List ℕ) (table q : ℕ) (x : Listed) (r :
   pub mem : m′ ≡ pick (isDone r) (stored t table x (length (x .places)) 0 m) m
   -- the round trip, where no two guest addresses share a byte
   pub back : Good t → r ≡ Done → WalksTo t m′ table q (getD (x .places) 0 0) (links x)
-
--- ---- for the functions below lay_chain
-pub record In (k : ℕ) (x : Listed) : Type 0 where
-  pub places : k < length (x .places)
-  pub addrs : k < length (x .addrs)
-  pub lens : k < length (x .lens)
-  pub flags : k < length (x .flags)
-
-unfoldable pub sums : List ℕ → ℕ → ℕ → ℕ
-sums ls zero k = 0
-sums ls (suc n) k = getD ls k 0 + sums ls n (suc k)
-
-abbrev pub sumFits : ℕ → Bool
-sumFits s = leb s sumMax

@@ -218,6 +218,30 @@ module _ (t : Table) (m : List ℕ) where
     pub filtered-skip : (c : DescriptorChain) (d : Descriptor) (r : DescriptorChain) → stepOf t m c ≡ Next d r → wanted w d ≡ false → filteredOf w t m c ≡ filteredOf w t m r
     filtered-skip c d r e h = filtered-on c d r e ∙ rw h
 
+  module _ (w : Bool) where
+    falls″ : (b : Bool) (k : ℕ) (c : DescriptorChain) (e : Descriptor) (s : DescriptorChain) (d : Descriptor) (r : DescriptorChain) → stepOf t m c ≡ Next e s → (seek w k t m s ≡ Next d r → Falls s r)
+        → pick b (Next e s) (seek w k t m s) ≡ Next d r → Falls c r
+    falls″ true k c e s d r f ih h = let z : r ≡ s = cc in rw z (step-falls t m c e s f)
+    falls″ false k c e s d r f ih h =
+        let u = ih h in
+        let v = step-falls t m c e s f in
+        record { ration = omega arith; table = u .table ∙ v .table; size = u .size ∙ v .size }
+
+    falls′ : (k : ℕ) (c : DescriptorChain) (s : Step) (d : Descriptor) (r : DescriptorChain) → stepOf t m c ≡ s → ((x : DescriptorChain) → seek w k t m x ≡ Next d r → Falls x r)
+        → onStep s (λ d r. pick (wanted w d) (Next d r) (seek w k t m r)) End ≡ Next d r → Falls c r
+    falls′ k c (Next e s) d r f ih h = falls″ (wanted w e) k c e s d r f (ih s) h
+    falls′ k c End d r f ih h = absurd (let z : _≡_ {A = ℕ} 0 1 = cc in omega arith)
+
+    seek-falls : (k : ℕ) (c : DescriptorChain) (d : Descriptor) (r : DescriptorChain) → seek w k t m c ≡ Next d r → Falls c r
+    unfolding seek
+    seek-falls zero c d r h = absurd (let z : _≡_ {A = ℕ} 0 1 = cc in omega arith)
+    seek-falls (suc k) c d r h = falls′ k c (stepOf t m c) d r refl (λ x. seek-falls k x d r) h
+
+    -- the measure of a loop over a filtered next
+    pub filtered-falls : (c : DescriptorChain) (d : Descriptor) (r : DescriptorChain) → filteredOf w t m c ≡ Next d r → Falls c r
+    unfolding filteredOf
+    filtered-falls c d r h = seek-falls (c .ttl) c d r h
+
   -- ---- looks, lookedOf
   module _ (stop : Descriptor → Bool) where
     looks″ : (b : Bool) (n : ℕ) (l : List ℕ) → length l ≤ n → length (pick b [] l) ≤ n

@@ -4,7 +4,8 @@ use desc::Descriptor;
 ghost use mathlib.Core.Path.{_≡_};
 ghost use Prim.Native.Nat.{_<_};
 ghost use lib.ListN.{length};
-ghost use Rattle.chain.specs.Links.{listed, SameLength, In, linkFlags, link, every, counted, below, fresh, direct, sums, sumFits, canStore, stored, LaidDown};
+ghost use Rattle.chain.specs.Links.{listed, linkFlags, link, every, counted, below, fresh, direct, canStore, stored, LaidDown};
+ghost use Rattle.chain.specs.Laying.{SameLength, In, sums, sumFits};
 
 // What laying a chain answers: that it was laid, or the first reason against it, in this order.
 pub enum Laid {
@@ -26,11 +27,7 @@ pub enum Laid {
 fn link_flags(f: u16, more: bool) -> u16
     ensures { λ r. ⌜ r ≡ linkFlags more f ⌝ }
 {
-    if more {
-        f / 2 * 2 + 1
-    } else {
-        f / 2 * 2
-    }
+    if more { f / 2 * 2 + 1 } else { f / 2 * 2 }
 }
 
 // The k-th descriptor as it is stored: with NEXT and the next place if another follows, without if not.
@@ -154,7 +151,13 @@ fn can_store(regions: &[u64], size: usize, desc_table: u64, places: &[u16]) -> b
 {
     let mut k: usize = 0;
     while k < places.len() {
-        if !memory::can_write(regions, size, desc_table, desc::VIRTQ_DESCRIPTOR_SIZE * (places[k] as u32), desc::VIRTQ_DESCRIPTOR_SIZE) {
+        if !memory::can_write(
+            regions,
+            size,
+            desc_table,
+            desc::VIRTQ_DESCRIPTOR_SIZE * (places[k] as u32),
+            desc::VIRTQ_DESCRIPTOR_SIZE,
+        ) {
             return false;
         }
         k += 1;
@@ -164,7 +167,15 @@ fn can_store(regions: &[u64], size: usize, desc_table: u64, places: &[u16]) -> b
 
 // ---- the writes
 
-fn store(regions: &[u64], mem: &mut [u8], desc_table: u64, places: &[u16], addrs: &[u64], lens: &[u32], flags: &[u16])
+fn store(
+    regions: &[u64],
+    mem: &mut [u8],
+    desc_table: u64,
+    places: &[u16],
+    addrs: &[u64],
+    lens: &[u32],
+    flags: &[u16],
+)
     requires { ⌜ SameLength (listed (now places) (now addrs) (now lens) (now flags)) ⌝ }
     ensures { λ _. ⌜ now (mem .exit) ≡ stored (now (regions .entry)) «desc_table» (listed (now (places .entry)) (now (addrs .entry)) (now (lens .entry)) (now (flags .entry))) (length (now (places .entry))) 0 (now (mem .entry)) ⌝ }
 {
@@ -178,7 +189,16 @@ fn store(regions: &[u64], mem: &mut [u8], desc_table: u64, places: &[u16], addrs
 
 // Lays a list of descriptors into the table of queue_size descriptors at desc_table, each at its place, linked by NEXT; the flags
 // are as given but for NEXT. From the first place on the walks then yield the list.
-pub fn lay_chain(regions: &[u64], mem: &mut [u8], desc_table: u64, queue_size: u16, places: &[u16], addrs: &[u64], lens: &[u32], flags: &[u16]) -> Laid
+pub fn lay_chain(
+    regions: &[u64],
+    mem: &mut [u8],
+    desc_table: u64,
+    queue_size: u16,
+    places: &[u16],
+    addrs: &[u64],
+    lens: &[u32],
+    flags: &[u16],
+) -> Laid
     ensures { λ r. ⌜ LaidDown (now (regions .entry)) (now (mem .entry)) «desc_table» «queue_size» (listed (now (places .entry)) (now (addrs .entry)) (now (lens .entry)) (now (flags .entry))) r (now (mem .exit)) ⌝ }
 {
     if !counted(queue_size, places, addrs, lens, flags) {

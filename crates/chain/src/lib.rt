@@ -1,6 +1,7 @@
 // SPDX-License-Identifier: Apache-2.0 AND BSD-3-Clause
 // Descriptor chains: the walk along one, the two filtered walks, and laying one into guest memory.
 pub mod lay;
+
 use desc::Descriptor;
 use desc::Found;
 ghost use mathlib.Core.Path.{_≡_};

@@ -1,7 +1,7 @@
 -- SPDX-License-Identifier: Apache-2.0 AND BSD-3-Clause
 -- Configuration: what the driver sets, what is refused, and what reset leaves.
-use Prim.Native.Nat.{ℕ, _+_, _*_, _/_, _%_, _^_, _≤_, _<_}
-use mathlib.Core.Path.{_≡_, refl, sym, ap, _∙_}
+use Prim.Native.Nat.{ℕ, _+_, _*_, _/_, _%_, _^_}
+use mathlib.Core.Path.{_≡_, refl, sym}
 use mathlib.Core.Logic.{_↔_}
 use mathlib.Core.Bool.{Bool, true, false, true≢false}
 use mathlib.Core.List.{List}
@@ -18,7 +18,6 @@ use Rattle.queue.specs.Size.{goodSize, maxQueueSize}
 use Rattle.queue.specs.declared.Queue.{Queue}
 use Rattle.queue.specs.declared.Half.{Half}
 use Rattle.queue.specs.declared.Half.the-variants.{Given, Kept}
-use Rattle.queue.specs.declared.Error.{Error}
 use Rattle.queue.specs.declared.Error.the-variants.{InvalidMaxSize, InvalidSize, InvalidDescTableAlign, InvalidAvailRingAlign, InvalidUsedRingAlign}
 use Rattle.queue.specs.declared.Configured.{Configured}
 use Rattle.queue.specs.declared.Configured.the-variants.{Changed, NotChanged}

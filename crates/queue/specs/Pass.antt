@@ -1,20 +1,24 @@
 -- SPDX-License-Identifier: Apache-2.0 AND BSD-3-Clause
 -- A pass ends (T1.7): from begin on, whatever the guest writes, it hands out at most as many heads as the queue has places, and one more for
 -- each step back.
-use Prim.Native.Nat.{ℕ, zero, suc, _+_, _-_, _%_, _≤_, _<_}
+use Prim.Native.Nat.{ℕ, _+_, _%_, _≤_, _<_}
 use native.Mathlib.Decide.{decLe}
 use native.Mathlib.Omega.{arith}
-use mathlib.Core.Path.{_≡_, refl, sym, ap, _∙_}
-use mathlib.Core.Bool.{Bool, true, false}
+use mathlib.Core.Path.{_≡_, refl, sym, _∙_}
+use mathlib.Core.Bool.{Bool}
 use mathlib.Core.List.{List, [], _∷_}
 use Rattle.regions.specs.Table.{Table}
-use Rattle.queue.specs.State.{pass, withNextAvail}
+use Rattle.queue.specs.State.{pass, withNextAvail, withNextUsed, withReady, withEventIdx}
 use Rattle.queue.specs.Wrap.{next16, sub16, sub16-lt, sub16-add, cancel16}
 use Rattle.queue.specs.Avail.{beginOf, begin-elim, headOf, head-elim, backOf}
+use Rattle.queue.specs.Used.{putOf, put-elim}
+use Rattle.queue.specs.Notify.{questionOf, question-elim}
+use Rattle.queue.specs.Config.{setSizeOf, setSize-elim, setDescTableOf, setDescTable-elim, setAvailRingOf, setAvailRing-elim, setUsedRingOf, setUsedRing-elim}
+use Rattle.queue.specs.Proper.{OfConfigured, OfPlaced, OfAnswered}
+use Rattle.queue.specs.declared.Half.{Half}
 use Rattle.queue.specs.declared.Queue.{Queue}
 use Rattle.queue.specs.declared.AvailIter.{AvailIter}
-use Rattle.queue.specs.declared.Begun.{Begun}
-use Rattle.queue.specs.declared.Begun.the-variants.{Pass, NotBegun}
+use Rattle.queue.specs.declared.Begun.the-variants.{Pass}
 use Rattle.queue.specs.declared.Taken.{Taken}
 use Rattle.queue.specs.declared.Taken.the-variants.{Head, NoHead}
 
@@ -124,6 +128,33 @@ begin-left t q m p x =
     (λ e y. absurd (let z : _≡_ {A = ℕ} 0 1 = cc in omega arith)) (λ e y. absurd (let z : _≡_ {A = ℕ} 0 1 = cc in omega arith))
     (λ r z e y. absurd (let z : _≡_ {A = ℕ} 0 1 = cc in omega arith)) (λ i r z e h y. absurd (let z : _≡_ {A = ℕ} 0 1 = cc in omega arith))
     (λ i r z e h y. let w : i ≡ p .«last_index» = cc in rw (← w) h) x
+
+-- ---- every call but begin, next head, pop, a step back, setting that position and reset is a step of the kind `Other`
+abbrev pub Keeps : Queue → Queue → Type 0
+Keeps q p = p .«next_avail» ≡ q .«next_avail»
+
+module _ (q : Queue) where
+  pub put-keeps : (t : Table) (m : List ℕ) (head n : ℕ) → OfPlaced (Keeps q) (putOf t q m head n)
+  put-keeps t m head n = put-elim t q m head n (λ r k. OfPlaced (Keeps q) r) (λ h. tt) (λ h e. tt) (λ h e f. refl)
+
+  pub question-keeps : (t : Table) (m : List ℕ) → OfAnswered (Keeps q) (questionOf t q m)
+  question-keeps t m = question-elim t q m (OfAnswered (Keeps q)) (λ e. refl) (λ e f. tt) (λ v e f. refl)
+
+  pub setSize-keeps : (n : ℕ) → OfConfigured (Keeps q) (setSizeOf q n)
+  setSize-keeps n = setSize-elim q (OfConfigured (Keeps q)) n (λ e. refl) (λ e. tt)
+
+  module _ (low high : Half) where
+    pub setDescTable-keeps : OfConfigured (Keeps q) (setDescTableOf q low high)
+    setDescTable-keeps = setDescTable-elim q (OfConfigured (Keeps q)) low high (λ e. refl) (λ e. tt)
+
+    pub setAvailRing-keeps : OfConfigured (Keeps q) (setAvailRingOf q low high)
+    setAvailRing-keeps = setAvailRing-elim q (OfConfigured (Keeps q)) low high (λ e. refl) (λ e. tt)
+
+    pub setUsedRing-keeps : OfConfigured (Keeps q) (setUsedRingOf q low high)
+    setUsedRing-keeps = setUsedRing-elim q (OfConfigured (Keeps q)) low high (λ e. refl) (λ e. tt)
+
+  pub flags-keep : (b : Bool) (n : ℕ) → Keeps q (withReady q b) × Keeps q (withEventIdx q b) × Keeps q (withNextUsed q n)
+  flags-keep b n = (refl, refl, refl)
 
 -- From an accepted begin on, at most as many heads are handed out as the queue had places then, and one more for each step back. The two
 -- premises on numbers are those of the fields' type.

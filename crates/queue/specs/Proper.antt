@@ -1,21 +1,20 @@
 -- SPDX-License-Identifier: Apache-2.0 AND BSD-3-Clause
 -- The states that setters and reset can reach (T2.4): every call keeps them, so every queue that was made by `new` is one of them.
-use Prim.Native.Nat.{ℕ, _+_, _*_, _%_, _^_, _≤_, _<_}
+use Prim.Native.Nat.{ℕ, _%_, _≤_, _<_}
 use native.Mathlib.Omega.{arith}
-use mathlib.Core.Path.{_≡_, refl, sym, ap, _∙_}
-use mathlib.Core.Bool.{Bool, true, false}
+use mathlib.Core.Path.{_≡_, refl}
+use mathlib.Core.Bool.{Bool, true}
 use mathlib.Core.List.{List}
-use Rattle.regions.specs.Table.{pick, Table}
-use Rattle.queue.specs.State.{withNextAvail, withNextUsed, withAdded, withEventIdx, withReady, numbered}
+use Rattle.regions.specs.Table.{Table}
+use Rattle.queue.specs.State.{withNextAvail, withNextUsed, withEventIdx, withReady, numbered}
 use Rattle.queue.specs.Size.{Power, goodSize, good-is, is-good, maxQueueSize}
 use Rattle.queue.specs.Config.{fresh, newOf, new-elim, resetOf, setSizeOf, setSize-elim, setDescTableOf, setDescTable-elim, setAvailRingOf, setAvailRing-elim, setUsedRingOf, setUsedRing-elim}
 use Rattle.queue.specs.Avail.{headOf, head-elim, popOf, pop-elim, backOf}
-use Rattle.queue.specs.Used.{putOf, putMem, put-elim}
+use Rattle.queue.specs.Used.{putOf, put-elim}
 use Rattle.queue.specs.Notify.{questionOf, question-elim}
 use Rattle.queue.specs.declared.Queue.{Queue}
 use Rattle.queue.specs.declared.AvailIter.{AvailIter}
 use Rattle.queue.specs.declared.Half.{Half}
-use Rattle.queue.specs.declared.Error.{Error}
 use Rattle.queue.specs.declared.Configured.{Configured}
 use Rattle.queue.specs.declared.Configured.the-variants.{Changed, NotChanged}
 use Rattle.queue.specs.declared.Taken.{Taken}

@@ -9,7 +9,7 @@ use mathlib.Core.Logic.{_↔_}
 use mathlib.Core.Bool.{Bool, true, false, true≢false}
 use lib.Dec.{eqb, leb}
 use lib.Bits.{bitAnd, and-step, and-self, and-mask, and-zero-l}
-use borrow.Author.Tests.{eq-eqb, ne-eqb, eqb-true, le-leb, leb-true}
+use borrow.Author.Tests.{eq-eqb, eqb-true, le-leb, leb-true}
 use Rattle.regions.specs.Table.{pick}
 use Rattle.queue.specs.Wrap.{sub16}
 

@@ -1,27 +1,26 @@
 -- SPDX-License-Identifier: Apache-2.0 AND BSD-3-Clause
 -- Worked values of begin, next head and the notification test: computed from the definitions.
-use Prim.Native.Nat.{ℕ, _+_, _*_, _%_}
-use mathlib.Core.Path.{_≡_, refl, sym, ap, _∙_}
-use mathlib.Core.Bool.{Bool, true, false}
-use mathlib.Core.List.{List, [], _∷_}
+use Prim.Native.Nat.{ℕ, _+_, _*_}
+use mathlib.Core.Path.{_≡_, refl, ap, _∙_}
+use mathlib.Core.Bool.{true, false}
+use mathlib.Core.List.{List}
 use native.Mathlib.Omega.{arith}
-use Rattle.regions.specs.Table.{pick, Table}
+use Rattle.regions.specs.Table.{Table}
 use Rattle.memory.specs.Access.{read2Of}
-use Rattle.memory.specs.declared.Got2.{Got2}
-use Rattle.memory.specs.declared.Got2.the-variants.{Value, Fault2}
-use Rattle.queue.specs.State.{queue, pass, withNextAvail}
-use Rattle.queue.specs.Wrap.{sub16, next16}
+use Rattle.memory.specs.declared.Got2.the-variants.{Value}
+use Rattle.queue.specs.State.{queue, pass}
+use Rattle.queue.specs.Wrap.{sub16}
 use Rattle.queue.specs.Size.{isPower, powerTo, goodSize}
-use Rattle.queue.specs.Config.{fresh, newOf, wholeOf, setSizeOf}
-use Rattle.queue.specs.Avail.{beginOf, begin-read, begunOn, headOf, head-read, head-end, takenOn, idxRead, entryRead}
+use Rattle.queue.specs.Config.{fresh, newOf, wholeOf}
+use Rattle.queue.specs.Avail.{beginOf, begin-read, begunOn, headOf, head-read, head-end, takenOn, idxRead}
 use Rattle.queue.specs.Notify.{tells, questionOf, question-read, answeredOn, usedEventRead}
 use Rattle.queue.specs.declared.Queue.{Queue}
 use Rattle.queue.specs.declared.Half.the-variants.{Given, Kept}
-use Rattle.queue.specs.declared.Error.the-variants.{InvalidAvailRingIndex, InvalidMaxSize, InvalidSize}
+use Rattle.queue.specs.declared.Error.the-variants.{InvalidAvailRingIndex, InvalidMaxSize}
 use Rattle.queue.specs.declared.Begun.the-variants.{Pass, NotBegun}
 use Rattle.queue.specs.declared.Taken.the-variants.{Head, NoHead}
 use Rattle.queue.specs.declared.Configured.the-variants.{Changed, NotChanged}
-use Rattle.queue.specs.declared.Answered.the-variants.{Needed, NotAnswered}
+use Rattle.queue.specs.declared.Answered.the-variants.{Needed}
 
 -- size 8, ready, the rings at 128 and 256, with these numbers
 abbrev eight : ℕ → ℕ → ℕ → Queue

@@ -1,8 +1,8 @@
 -- SPDX-License-Identifier: Apache-2.0 AND BSD-3-Clause
 -- Numbers of 16 bits: they count modulo 65,536 (VIRTIO 1.2, 2.7.6 and 2.7.8).
-use Prim.Native.Nat.{ℕ, _+_, _-_, _%_, _<_, _≤_}
+use Prim.Native.Nat.{ℕ, _+_, _-_, _%_, _<_}
 use native.Mathlib.Omega.{arith}
-use mathlib.Core.Path.{_≡_, refl, sym, ap, _∙_}
+use mathlib.Core.Path.{_≡_, sym, _∙_}
 
 -- one more
 abbrev pub next16 : ℕ → ℕ

@@ -4,8 +4,7 @@ use native.Mathlib.Omega.{arith}
 use mathlib.Core.Path.{_≡_, refl, sym, ap, _∙_}
 use Prim.Native.Nat.{ℕ, _+_, _-_, _≤_, _<_}
 use lib.ListN.{length, getD}
-use Rattle.chain.specs.Laying.{sums-begin, sums-on, sums-past, sums-end}
-use Rattle.chain.specs.Links.{sums}
+use Rattle.chain.specs.Laying.{sums, sums-begin, sums-on, sums-past, sums-end}
 use Rattle.chain.proofs.lay.sum_fits.Statement.{statement}
 use Rattle.chain.proofs.lay.sum_fits.Tie as tie
 use Rattle.chain.proofs.lay.sum_fits.Reads as reads

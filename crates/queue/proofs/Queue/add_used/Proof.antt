@@ -4,11 +4,6 @@ use borrow.Author.Needs.{needs}
 use Rattle.queue.specs.Used.{put-beyond, placed-refused, placed-done}
 use Rattle.queue.proofs.Queue.add_used.Statement.{statement}
 use Rattle.queue.proofs.Queue.add_used.Tie as tie
-use Rattle.queue.proofs.Queue.add_used.Reads as reads
-use Rattle.queue.proofs.Queue.add_used.Lts as lts
-use Rattle.queue.proofs.ring.used_entry_offset.Reads as used-entry-offset-reads
-use Rattle.queue.proofs.used.grown_queue.Reads as grown-queue-reads
-use Rattle.queue.proofs.used.publish.Reads as publish-reads
 
 returns : tie.Need-returns
 returns c = put-beyond _ _ _ _ _ (c .if1 .taken)

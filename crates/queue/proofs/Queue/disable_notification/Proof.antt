@@ -4,9 +4,6 @@ use borrow.Author.Needs.{needs}
 use Rattle.queue.specs.Notify.{stop-on, stop-fault, stop-written}
 use Rattle.queue.proofs.Queue.disable_notification.Statement.{statement}
 use Rattle.queue.proofs.Queue.disable_notification.Tie as tie
-use Rattle.queue.proofs.Queue.disable_notification.Reads as reads
-use Rattle.queue.proofs.Queue.disable_notification.Lts as lts
-use Rattle.memory.proofs.write2.Reads as write2-reads
 
 returns : tie.Need-returns
 returns c = stop-on _ _ _ (c .if1 .taken)

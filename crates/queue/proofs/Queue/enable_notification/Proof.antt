@@ -4,13 +4,6 @@ use borrow.Author.Needs.{needs}
 use Rattle.queue.specs.Notify.{ask-fault, ask-heard}
 use Rattle.queue.proofs.Queue.enable_notification.Statement.{statement}
 use Rattle.queue.proofs.Queue.enable_notification.Tie as tie
-use Rattle.queue.proofs.Queue.enable_notification.Reads as reads
-use Rattle.queue.proofs.Queue.enable_notification.Lts as lts
-use Rattle.memory.proofs.write2.Reads as write2-reads
-use Rattle.queue.proofs.Queue.avail_idx.Reads as avail-idx-reads
-use Rattle.queue.proofs.notify.ask_offset.Reads as ask-offset-reads
-use Rattle.queue.proofs.notify.ask_word.Reads as ask-word-reads
-use Rattle.queue.proofs.notify.heard_on.Reads as heard-on-reads
 
 ask-offset-requires : tie.Need-ask-offset-requires
 ask-offset-requires c κs = search needs

@@ -3,9 +3,6 @@ use borrow.Author.Needs.{needs}
 use Rattle.queue.specs.Avail.{back-is}
 use Rattle.queue.proofs.Queue.go_to_previous_position.Statement.{statement}
 use Rattle.queue.proofs.Queue.go_to_previous_position.Tie as tie
-use Rattle.queue.proofs.Queue.go_to_previous_position.Reads as reads
-use Rattle.queue.proofs.Queue.go_to_previous_position.Lts as lts
-use Rattle.queue.proofs.ring.minus.Reads as minus-reads
 
 minus-requires : tie.Need-minus-requires
 minus-requires c κs = search needs

@@ -4,10 +4,6 @@ use borrow.Author.Needs.{needs}
 use Rattle.queue.specs.Config.{valid-not-ready, valid-no-table, valid-no-avail, valid-used}
 use Rattle.queue.proofs.Queue.is_valid.Statement.{statement}
 use Rattle.queue.proofs.Queue.is_valid.Tie as tie
-use Rattle.queue.proofs.Queue.is_valid.Reads as reads
-use Rattle.queue.proofs.Queue.is_valid.Lts as lts
-use Rattle.memory.proofs.can_read.Reads as can-read-reads
-use Rattle.memory.proofs.can_write.Reads as can-write-reads
 
 cast-size : tie.Need-cast-size
 cast-size c = search needs

@@ -1,14 +1,10 @@
 -- SPDX-License-Identifier: Apache-2.0 AND BSD-3-Clause
 use borrow.Author.Tests.{not-true, not-false}
 use borrow.Author.Needs.{needs}
-use mathlib.Core.Path.{sym, _∙_}
+use mathlib.Core.Path.{sym}
 use Rattle.queue.specs.Avail.{begin-not-ready, begin-no-ring, begin-on}
 use Rattle.queue.proofs.Queue.iter.Statement.{statement}
 use Rattle.queue.proofs.Queue.iter.Tie as tie
-use Rattle.queue.proofs.Queue.iter.Reads as reads
-use Rattle.queue.proofs.Queue.iter.Lts as lts
-use Rattle.queue.proofs.Queue.avail_idx.Reads as avail-idx-reads
-use Rattle.queue.proofs.avail.begun_on.Reads as begun-on-reads
 
 returns : tie.Need-returns
 returns c = sym (begin-not-ready _ _ _ (not-true _ (c .if1 .taken)))

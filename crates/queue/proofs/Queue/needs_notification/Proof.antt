@@ -1,15 +1,10 @@
 -- SPDX-License-Identifier: Apache-2.0 AND BSD-3-Clause
 use borrow.Author.Tests.{not-true, not-false}
 use borrow.Author.Needs.{needs}
-use mathlib.Core.Path.{sym, _∙_}
+use mathlib.Core.Path.{sym}
 use Rattle.queue.specs.Notify.{question-off, question-on}
 use Rattle.queue.proofs.Queue.needs_notification.Statement.{statement}
 use Rattle.queue.proofs.Queue.needs_notification.Tie as tie
-use Rattle.queue.proofs.Queue.needs_notification.Reads as reads
-use Rattle.queue.proofs.Queue.needs_notification.Lts as lts
-use Rattle.memory.proofs.read2.Reads as read2-reads
-use Rattle.queue.proofs.notify.answered_on.Reads as answered-on-reads
-use Rattle.queue.proofs.notify.used_event_offset.Reads as used-event-offset-reads
 
 returns : tie.Need-returns
 returns c = sym (question-off _ _ _ (not-true _ (c .if1 .taken)))

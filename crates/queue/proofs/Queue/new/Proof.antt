@@ -4,10 +4,6 @@ use borrow.Author.Needs.{needs}
 use Rattle.queue.specs.Config.{new-refused, new-made}
 use Rattle.queue.proofs.Queue.new.Statement.{statement}
 use Rattle.queue.proofs.Queue.new.Tie as tie
-use Rattle.queue.proofs.Queue.new.Reads as reads
-use Rattle.queue.proofs.Queue.new.Lts as lts
-use Rattle.queue.proofs.config.fresh_queue.Reads as fresh-queue-reads
-use Rattle.queue.proofs.ring.good_size.Reads as good-size-reads
 
 good-size-requires : tie.Need-good-size-requires
 good-size-requires c κs = search needs

@@ -1,14 +1,9 @@
 -- SPDX-License-Identifier: Apache-2.0 AND BSD-3-Clause
 use borrow.Author.Needs.{needs}
-use mathlib.Core.Path.{sym, _∙_}
+use mathlib.Core.Path.{sym}
 use Rattle.queue.specs.Avail.{head-end, head-no-place, head-on}
 use Rattle.queue.proofs.Queue.next_head.Statement.{statement}
 use Rattle.queue.proofs.Queue.next_head.Tie as tie
-use Rattle.queue.proofs.Queue.next_head.Reads as reads
-use Rattle.queue.proofs.Queue.next_head.Lts as lts
-use Rattle.memory.proofs.read2.Reads as read2-reads
-use Rattle.queue.proofs.avail.taken_on.Reads as taken-on-reads
-use Rattle.queue.proofs.ring.avail_entry_offset.Reads as avail-entry-offset-reads
 
 returns : tie.Need-returns
 returns c = sym (head-end _ _ _ _ (c .if1 .taken))

@@ -4,10 +4,6 @@ use mathlib.Core.Path.{sym, _∙_}
 use Rattle.queue.specs.Avail.{pop-begun, pop-refused}
 use Rattle.queue.proofs.Queue.pop_descriptor_chain.Statement.{statement}
 use Rattle.queue.proofs.Queue.pop_descriptor_chain.Tie as tie
-use Rattle.queue.proofs.Queue.pop_descriptor_chain.Reads as reads
-use Rattle.queue.proofs.Queue.pop_descriptor_chain.Lts as lts
-use Rattle.queue.proofs.Queue.iter.Reads as iter-reads
-use Rattle.queue.proofs.Queue.next_head.Reads as next-head-reads
 
 iter-requires : tie.Need-iter-requires
 iter-requires c κs = search needs

@@ -3,9 +3,6 @@ use borrow.Author.Needs.{needs}
 use Rattle.queue.specs.Config.{reset-is}
 use Rattle.queue.proofs.Queue.reset.Statement.{statement}
 use Rattle.queue.proofs.Queue.reset.Tie as tie
-use Rattle.queue.proofs.Queue.reset.Reads as reads
-use Rattle.queue.proofs.Queue.reset.Lts as lts
-use Rattle.queue.proofs.config.fresh_queue.Reads as fresh-queue-reads
 
 fresh-queue-requires : tie.Need-fresh-queue-requires
 fresh-queue-requires c κs = search needs

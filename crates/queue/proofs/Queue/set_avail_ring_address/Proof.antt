@@ -3,9 +3,6 @@ use borrow.Author.Needs.{needs}
 use Rattle.queue.specs.Config.{setAvailRing-refused, setAvailRing-set}
 use Rattle.queue.proofs.Queue.set_avail_ring_address.Statement.{statement}
 use Rattle.queue.proofs.Queue.set_avail_ring_address.Tie as tie
-use Rattle.queue.proofs.Queue.set_avail_ring_address.Reads as reads
-use Rattle.queue.proofs.Queue.set_avail_ring_address.Lts as lts
-use Rattle.queue.proofs.config.whole.Reads as whole-reads
 
 whole-requires : tie.Need-whole-requires
 whole-requires c κs = search needs

@@ -4,9 +4,6 @@ use borrow.Author.Needs.{needs}
 use Rattle.queue.specs.Config.{setSize-refused, setSize-set}
 use Rattle.queue.proofs.Queue.set_size.Statement.{statement}
 use Rattle.queue.proofs.Queue.set_size.Tie as tie
-use Rattle.queue.proofs.Queue.set_size.Reads as reads
-use Rattle.queue.proofs.Queue.set_size.Lts as lts
-use Rattle.queue.proofs.ring.good_size.Reads as good-size-reads
 
 good-size-requires : tie.Need-good-size-requires
 good-size-requires c κs = search needs

@@ -3,9 +3,6 @@ use borrow.Author.Needs.{needs}
 use Rattle.queue.specs.Avail.{begun-pass, begun-far, begun-fault}
 use Rattle.queue.proofs.avail.begun_on.Statement.{statement}
 use Rattle.queue.proofs.avail.begun_on.Tie as tie
-use Rattle.queue.proofs.avail.begun_on.Reads as reads
-use Rattle.queue.proofs.avail.begun_on.Lts as lts
-use Rattle.queue.proofs.ring.minus.Reads as minus-reads
 
 enum-known-got : tie.Need-enum-known-got
 enum-known-got c = search needs

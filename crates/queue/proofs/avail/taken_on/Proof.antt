@@ -3,9 +3,6 @@ use borrow.Author.Needs.{needs}
 use Rattle.queue.specs.Avail.{taken-head}
 use Rattle.queue.proofs.avail.taken_on.Statement.{statement}
 use Rattle.queue.proofs.avail.taken_on.Tie as tie
-use Rattle.queue.proofs.avail.taken_on.Reads as reads
-use Rattle.queue.proofs.avail.taken_on.Lts as lts
-use Rattle.queue.proofs.ring.next.Reads as next-reads
 
 enum-known-got : tie.Need-enum-known-got
 enum-known-got c = search needs

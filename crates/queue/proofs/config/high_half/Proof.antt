@@ -3,8 +3,6 @@ use borrow.Author.Needs.{needs}
 use native.Mathlib.Omega.{arith}
 use Rattle.queue.proofs.config.high_half.Statement.{statement}
 use Rattle.queue.proofs.config.high_half.Tie as tie
-use Rattle.queue.proofs.config.high_half.Reads as reads
-use Rattle.queue.proofs.config.high_half.Lts as lts
 
 enum-known-half : tie.Need-enum-known-half
 enum-known-half c = search needs

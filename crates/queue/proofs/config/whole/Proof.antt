@@ -3,10 +3,6 @@ use borrow.Author.Needs.{needs}
 use Rattle.queue.specs.Config.{whole-is}
 use Rattle.queue.proofs.config.whole.Statement.{statement}
 use Rattle.queue.proofs.config.whole.Tie as tie
-use Rattle.queue.proofs.config.whole.Reads as reads
-use Rattle.queue.proofs.config.whole.Lts as lts
-use Rattle.queue.proofs.config.high_half.Reads as high-half-reads
-use Rattle.queue.proofs.config.low_half.Reads as low-half-reads
 
 high-half-requires : tie.Need-high-half-requires
 high-half-requires c κs = search needs

@@ -4,9 +4,6 @@ use Rattle.queue.specs.Notify.{answered-value, answered-fault}
 use Rattle.queue.specs.Notify.{answered-value}
 use Rattle.queue.proofs.notify.answered_on.Statement.{statement}
 use Rattle.queue.proofs.notify.answered_on.Tie as tie
-use Rattle.queue.proofs.notify.answered_on.Reads as reads
-use Rattle.queue.proofs.notify.answered_on.Lts as lts
-use Rattle.queue.proofs.notify.event_passed.Reads as event-passed-reads
 
 enum-known-got : tie.Need-enum-known-got
 enum-known-got c = search needs

@@ -2,8 +2,6 @@
 use borrow.Author.Needs.{needs}
 use Rattle.queue.proofs.notify.ask_offset.Statement.{statement}
 use Rattle.queue.proofs.notify.ask_offset.Tie as tie
-use Rattle.queue.proofs.notify.ask_offset.Reads as reads
-use Rattle.queue.proofs.notify.ask_offset.Lts as lts
 
 mul-result : tie.Need-mul-result
 mul-result c = search needs

@@ -3,9 +3,6 @@ use borrow.Author.Needs.{needs}
 use Rattle.queue.specs.Notify.{tells-is}
 use Rattle.queue.proofs.notify.event_passed.Statement.{statement}
 use Rattle.queue.proofs.notify.event_passed.Tie as tie
-use Rattle.queue.proofs.notify.event_passed.Reads as reads
-use Rattle.queue.proofs.notify.event_passed.Lts as lts
-use Rattle.queue.proofs.ring.minus.Reads as minus-reads
 
 minus-requires : tie.Need-minus-requires
 minus-requires c κs = search needs

@@ -3,8 +3,6 @@ use borrow.Author.Needs.{needs}
 use Rattle.queue.specs.Notify.{heard-value, heard-fault}
 use Rattle.queue.proofs.notify.heard_on.Statement.{statement}
 use Rattle.queue.proofs.notify.heard_on.Tie as tie
-use Rattle.queue.proofs.notify.heard_on.Reads as reads
-use Rattle.queue.proofs.notify.heard_on.Lts as lts
 
 enum-known-got : tie.Need-enum-known-got
 enum-known-got c = search needs

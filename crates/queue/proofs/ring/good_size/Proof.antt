@@ -3,9 +3,6 @@ use borrow.Author.Needs.{needs}
 use Rattle.queue.specs.Size.{good-power, good-other}
 use Rattle.queue.proofs.ring.good_size.Statement.{statement}
 use Rattle.queue.proofs.ring.good_size.Tie as tie
-use Rattle.queue.proofs.ring.good_size.Reads as reads
-use Rattle.queue.proofs.ring.good_size.Lts as lts
-use Rattle.queue.proofs.ring.is_power_of_two.Reads as is-power-of-two-reads
 
 is-power-of-two-requires : tie.Need-is-power-of-two-requires
 is-power-of-two-requires c κs = search needs

@@ -1,12 +1,10 @@
 -- SPDX-License-Identifier: Apache-2.0 AND BSD-3-Clause
 use borrow.Author.Needs.{needs}
 use native.Mathlib.Omega.{arith}
-use mathlib.Core.Path.{sym, _∙_}
+use mathlib.Core.Path.{sym}
 use Rattle.queue.specs.Size.{power-zero, power-test}
 use Rattle.queue.proofs.ring.is_power_of_two.Statement.{statement}
 use Rattle.queue.proofs.ring.is_power_of_two.Tie as tie
-use Rattle.queue.proofs.ring.is_power_of_two.Reads as reads
-use Rattle.queue.proofs.ring.is_power_of_two.Lts as lts
 
 returns : tie.Need-returns
 returns c = sym (power-zero _ (c .if1 .taken))

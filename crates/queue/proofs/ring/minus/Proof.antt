@@ -4,9 +4,6 @@ use native.Mathlib.Omega.{arith}
 use Rattle.queue.specs.Wrap.{is-sub16}
 use Rattle.queue.proofs.ring.minus.Statement.{statement}
 use Rattle.queue.proofs.ring.minus.Tie as tie
-use Rattle.queue.proofs.ring.minus.Reads as reads
-use Rattle.queue.proofs.ring.minus.Lts as lts
-use Rattle.std.proofs.num.wrapping_sub_u16.Reads as wrapping-sub-u16-reads
 
 wrapping-sub-u16-requires : tie.Need-wrapping-sub-u16-requires
 wrapping-sub-u16-requires c κs = search needs

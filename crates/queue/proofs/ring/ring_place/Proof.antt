@@ -5,9 +5,6 @@ use Prim.Native.Nat.{_<_}
 use Rattle.queue.specs.Size.{place-mask, place-some}
 use Rattle.queue.proofs.ring.ring_place.Statement.{statement}
 use Rattle.queue.proofs.ring.ring_place.Tie as tie
-use Rattle.queue.proofs.ring.ring_place.Reads as reads
-use Rattle.queue.proofs.ring.ring_place.Lts as lts
-use Rattle.queue.proofs.ring.minus.Reads as minus-reads
 
 minus-requires : tie.Need-minus-requires
 minus-requires c κs = search needs

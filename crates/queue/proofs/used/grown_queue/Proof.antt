@@ -3,9 +3,6 @@ use borrow.Author.Needs.{needs}
 use Rattle.queue.specs.Used.{grown-is}
 use Rattle.queue.proofs.used.grown_queue.Statement.{statement}
 use Rattle.queue.proofs.used.grown_queue.Tie as tie
-use Rattle.queue.proofs.used.grown_queue.Reads as reads
-use Rattle.queue.proofs.used.grown_queue.Lts as lts
-use Rattle.queue.proofs.ring.next.Reads as next-reads
 
 next-requires : tie.Need-next-requires
 next-requires c κs = search needs

@@ -4,11 +4,6 @@ use borrow.Author.Needs.{needs}
 use Rattle.queue.specs.Used.{published-no-idx, published-no-entry, published-both}
 use Rattle.queue.proofs.used.publish.Statement.{statement}
 use Rattle.queue.proofs.used.publish.Tie as tie
-use Rattle.queue.proofs.used.publish.Reads as reads
-use Rattle.queue.proofs.used.publish.Lts as lts
-use Rattle.desc.proofs.write_used_elem.Reads as write-used-elem-reads
-use Rattle.memory.proofs.can_write.Reads as can-write-reads
-use Rattle.memory.proofs.write2.Reads as write2-reads
 
 can-write-requires : tie.Need-can-write-requires
 can-write-requires c κs = search needs

@@ -1,0 +1,13 @@
+pub mod World
+pub mod Number
+pub mod Named
+pub mod Calls
+pub mod Always
+pub mod Writes
+pub mod Footprint
+pub mod Ring
+pub mod Notice
+pub mod Driver
+pub mod Step
+pub mod Theorems
+pub mod Witness

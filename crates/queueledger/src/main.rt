@@ -1,0 +1,212 @@
+// SPDX-License-Identifier: Apache-2.0 AND BSD-3-Clause
+// Runs a script of the replay language from standard input, and writes its answers to standard output.
+use libc::STDIN_FILENO;
+use libc::STDOUT_FILENO;
+use replay::state::Done;
+use replay::state::Outcome;
+use replay::state::State;
+
+// What is known between two lines.
+struct Session {
+    state: State,
+    // How many lines have ended, and how many bytes of the next one are there.
+    lines: u64,
+    begun: usize,
+    // How many bytes of answers wait to be written.
+    waiting: usize,
+    ended: bool,
+}
+
+// Answers are written when there may be no room for one more.
+const FULL: usize = 65536 - replay::text::LONGEST_ANSWER;
+
+fn main() {
+    lend([0; 1048576]);
+}
+
+// The largest image that there is; a line buffer one byte longer than a line may be; and room for answers.
+fn lend(mut space: [u8; 1048576]) {
+    let mut table = [0u64; 24];
+    let mut line = [0u8; 4096];
+    let mut out = [0u8; 65536];
+    run(&mut space, &mut table, &mut line, &mut out);
+}
+
+fn run(space: &mut [u8], table: &mut [u64], line: &mut [u8], out: &mut [u8]) {
+    let s = read_all(start(), space, table, line, out);
+    // The last line may lack its line feed.
+    if 0 < s.begun {
+        let last = end_line(s, space, table, line, out);
+        write_waiting(last, out);
+    }
+}
+
+fn start() -> Session {
+    Session {
+        state: State::new(),
+        lines: 0,
+        begun: 0,
+        waiting: 0,
+        ended: false,
+    }
+}
+
+// A proved loop has to end, and nothing says that the input does: so it counts down from a number that no run uses up.
+fn read_all(
+    from: Session,
+    space: &mut [u8],
+    table: &mut [u64],
+    line: &mut [u8],
+    out: &mut [u8],
+) -> Session {
+    let mut s = from;
+    let mut turns = u64::MAX;
+    while 0 < turns {
+        if s.ended {
+            return s;
+        }
+        s = read_some(s, space, table, line, out);
+        turns -= 1;
+    }
+    s
+}
+
+// One read, and the lines that end in it. Their answers are written before the next read, which may have to wait.
+fn read_some(
+    s: Session,
+    space: &mut [u8],
+    table: &mut [u64],
+    line: &mut [u8],
+    out: &mut [u8],
+) -> Session {
+    let mut buffer = io::large_buffer();
+    let got = libc::read(STDIN_FILENO, &mut buffer);
+    if got <= 0 {
+        return end_of(s);
+    }
+    let n = io::count(got, &buffer);
+    write_waiting(feed(&buffer[..n], s, space, table, line, out), out)
+}
+
+fn end_of(mut s: Session) -> Session {
+    s.ended = true;
+    s
+}
+
+fn feed(
+    part: &[u8],
+    from: Session,
+    space: &mut [u8],
+    table: &mut [u64],
+    line: &mut [u8],
+    out: &mut [u8],
+) -> Session {
+    let mut s = from;
+    let mut i = 0;
+    while i < part.len() {
+        let end = bytes::scan::find(part, i, part.len(), b'\n');
+        s = longer(s, line, &part[i..end]);
+        if part.len() <= end {
+            return s;
+        }
+        s = end_line(s, space, table, line, out);
+        i = end + 1;
+    }
+    s
+}
+
+fn longer(mut s: Session, line: &mut [u8], part: &[u8]) -> Session {
+    s.begun = append(line, s.begun, part);
+    s
+}
+
+fn append(line: &mut [u8], begun: usize, part: &[u8]) -> usize {
+    let mut at = begun;
+    let mut i = 0;
+    while i < part.len() {
+        at = store(line, at, part[i]);
+        i += 1;
+    }
+    at
+}
+
+// What a line has beyond the buffer is left out: by then it is too long.
+fn store(line: &mut [u8], at: usize, b: u8) -> usize {
+    if at < line.len() {
+        line[at] = b;
+        at + 1
+    } else {
+        at
+    }
+}
+
+fn end_line(
+    s: Session,
+    space: &mut [u8],
+    table: &mut [u64],
+    line: &[u8],
+    out: &mut [u8],
+) -> Session {
+    let begun = s.begun;
+    if line.len() < begun {
+        return s;
+    }
+    answer_line(s, space, table, &line[0..begun], out)
+}
+
+fn answer_line(
+    s: Session,
+    space: &mut [u8],
+    table: &mut [u64],
+    line: &[u8],
+    out: &mut [u8],
+) -> Session {
+    let state = s.state;
+    let number = std::num::wrapping_add_u64(s.lines, 1);
+    let outcome = replay::line::run_line(line, state, space, table);
+    match outcome {
+        Outcome::Silent => next_line(state, number, s.waiting, out),
+        Outcome::Wrong(fault) => {
+            let waiting = replay::text::write_fault(out, s.waiting, number, fault);
+            next_line(state, number, waiting, out)
+        }
+        Outcome::Ran(done) => answer(done, number, s.waiting, space, line, out),
+    }
+}
+
+fn answer(
+    done: Done,
+    number: u64,
+    waiting: usize,
+    space: &[u8],
+    line: &[u8],
+    out: &mut [u8],
+) -> Session {
+    let state = done.state;
+    let said = done.answer;
+    let longer = replay::text::write_answer(out, waiting, line, said, space);
+    next_line(state, number, longer, out)
+}
+
+fn next_line(state: State, lines: u64, waiting: usize, out: &[u8]) -> Session {
+    let s = Session {
+        state,
+        lines,
+        begun: 0,
+        waiting,
+        ended: false,
+    };
+    if waiting < FULL {
+        return s;
+    }
+    write_waiting(s, out)
+}
+
+fn write_waiting(mut s: Session, out: &[u8]) -> Session {
+    let waiting = s.waiting;
+    if waiting <= out.len() {
+        io::write_all(STDOUT_FILENO, &out[0..waiting]);
+    }
+    s.waiting = 0;
+    s
+}
