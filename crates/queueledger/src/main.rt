@@ -34,7 +34,11 @@ fn lend(mut space: [u8; 1048576]) {
 
 fn run(space: &mut [u8], table: &mut [u64], line: &mut [u8], out: &mut [u8]) {
     let s = read_all(start(), space, table, line, out);
-    // The last line may lack its line feed.
+    end_script(s, space, table, line, out);
+}
+
+// The last line may lack its line feed.
+fn end_script(s: Session, space: &mut [u8], table: &mut [u64], line: &[u8], out: &mut [u8]) {
     if 0 < s.begun {
         let last = end_line(s, space, table, line, out);
         write_waiting(last, out);
@@ -109,8 +113,8 @@ fn feed(
         if part.len() <= end {
             return s;
         }
-        s = end_line(s, space, table, line, out);
         i = end + 1;
+        s = end_line(s, space, table, line, out);
     }
     s
 }
