@@ -1,0 +1,52 @@
+-- SPDX-License-Identifier: Apache-2.0 AND BSD-3-Clause
+use borrow.Author.Needs.{needs}
+use Prim.Native.Nat.{_-_, _≤_}
+use mathlib.Core.Path.{_≡_, refl}
+use lib.ListN.{length}
+use Rattle.bench.proofs.rounds.all.Statement.{statement}
+use Rattle.bench.proofs.rounds.all.Tie as tie
+
+abbrev Inv-loop : tie.InvT-loop
+Inv-loop n table mem₀ s₀ idx₀ i₀ mem s idx i = (i ≤ n .rounds) × (length mem ≡ length mem₀)
+
+abbrev μ-loop : tie.MeasureT-loop
+μ-loop n table mem₀ s₀ idx₀ i₀ mem s idx i = n .rounds - i
+
+loop-holds : tie.Need-loop-holds Inv-loop μ-loop
+loop-holds c = (search needs, refl)
+
+driven-requires : tie.Need-driven-requires Inv-loop μ-loop
+driven-requires c κs = search needs
+
+add-i : tie.Need-add-i Inv-loop μ-loop
+add-i c = search needs
+
+round-requires : tie.Need-round-requires Inv-loop μ-loop
+round-requires c κs = search needs
+
+loop-less : tie.Need-loop-less Inv-loop μ-loop
+loop-less c = search needs
+
+loop-again : tie.Need-loop-again Inv-loop μ-loop
+loop-again c = (search needs, search needs)
+
+same-length : tie.Need-same-length Inv-loop μ-loop
+same-length c = search needs
+
+returns : tie.Need-returns Inv-loop μ-loop
+returns c = search needs
+
+pub all-spec : {M : Type 1} → statement M
+all-spec =
+    tie.close
+    (tie.spec
+    Inv-loop
+    μ-loop
+    loop-holds
+    driven-requires
+    add-i
+    round-requires
+    loop-less
+    loop-again
+    same-length
+    returns)
