@@ -3,8 +3,9 @@
 use memory::Got16;
 ghost use mathlib.Core.Path.{_≡_};
 ghost use Prim.Native.Nat.{_+_, _*_, _%_};
-ghost use Rattle.memory.specs.Access.{Wrote};
-ghost use Rattle.desc.specs.Layout.{descAddr};
+ghost use Rattle.wire.specs.Number.{bytes};
+ghost use Rattle.memory.specs.Access.{Wrote, WroteBoth};
+ghost use Rattle.desc.specs.Layout.{descAddr, usedIdxAddr};
 ghost use Rattle.desc.specs.Desc.{hasNext, isWriteOnly, isIndirect, descBytes, usedBytes, descAt};
 
 // Sizes in bytes: an element, the fields before the ring, and all fields that are no elements.
@@ -150,16 +151,18 @@ pub fn write_descriptor(
     )
 }
 
-// A used element, id and length, at off in the used ring at guest address `ring`.
-pub fn write_used_elem(
+// A used element, id and length, at off in the used ring at guest address `ring`, and then the ring's idx: a driver that sees the new
+// idx finds the element in its place. Both are written, or nothing is.
+pub fn publish_used(
     regions: &[u64],
     mem: &mut [u8],
     ring: u64,
     off: u32,
     id: u32,
     len: u32,
+    idx: u16,
 ) -> bool
-    ensures { λ r. ⌜ Wrote (now (regions .entry)) (now (mem .entry)) (ring + off) (usedBytes id len) r (now (mem .exit)) ⌝ }
+    ensures { λ r. ⌜ WroteBoth (now (regions .entry)) (now (mem .entry)) (ring + off) (usedBytes id len) (usedIdxAddr ring) (bytes 2 idx) r (now (mem .exit)) ⌝ }
 {
-    memory::write8(regions, mem, ring, off, id, len)
+    memory::write8_then2(regions, mem, ring, off, id, len, 2, idx)
 }

@@ -63,6 +63,11 @@ pub record Wrote (t : Table) (m : List ℕ) (a : ℕ) (bs : List ℕ) (r : Bool)
   pub ok : r ≡ writable t (length m) a (length bs)
   pub mem : m′ ≡ after t m a bs
 
+-- what a write of bs at a, and of cs at b after it, answers and leaves: both are written, or nothing is
+pub record WroteBoth (t : Table) (m : List ℕ) (a : ℕ) (bs : List ℕ) (b : ℕ) (cs : List ℕ) (r : Bool) (m′ : List ℕ) : Type 0 where
+  pub ok : r ≡ pick (writable t (length m) a (length bs)) (writable t (length m) b (length cs)) false
+  pub mem : m′ ≡ pick r (after t (after t m a bs) b cs) m
+
 -- a read of 2 bytes, as one number
 unfoldable pub read2Of : Table → List ℕ → ℕ → Got2
 read2Of t m a = pick (readable t (length m) a 2) (Value (number (bytesAt t m a 2))) Fault2
@@ -228,6 +233,40 @@ module _ (t : Table) (m : List ℕ) (a : ℕ) where
 
   pub wrote-refused : (r : Bool) (bs : List ℕ) → r ≡ writable t (length m) a (length bs) → r ≡ false → Wrote t m a bs false m
   wrote-refused r bs e f = record { ok = sym f ∙ e; mem = sym (after-refused t m a bs (sym e ∙ f)) }
+
+-- ---- two writes, both or neither
+module _ (t : Table) (m : List ℕ) (a : ℕ) (bs : List ℕ) (b : ℕ) (cs : List ℕ) where
+  pub both-run : (i j : ℕ) (m₁ m₂ : List ℕ) → RunAt t (length m) a (length bs) i → RunAt t (length m) b (length cs) j
+      → m₁ ≡ sets m i bs → m₂ ≡ sets m₁ j cs → WroteBoth t m a bs b cs true m₂
+  both-run i j m₁ m₂ e f u v =
+      record {
+        ok = sym (rw (writable-run t m a (length bs) i e) (writable-run t m b (length cs) j f));
+        mem = v ∙ ap (λ (l : List ℕ). sets l j cs) (u ∙ sym (after-run t m a bs i e)) ∙ sym (after-run t (after t m a bs) b cs j (rw after-length f));
+      }
+
+  module _ (c : Bool) (e : c ≡ writable t (length m) b (length cs)) where
+    no-second : (x y : Bool) → y ≡ false → pick x y false ≡ false
+    no-second true y f = f
+    no-second false y f = refl
+
+    pub both-no-second : c ≡ false → WroteBoth t m a bs b cs false m
+    both-no-second f = record { ok = sym (no-second (writable t (length m) a (length bs)) (writable t (length m) b (length cs)) (sym e ∙ f)); mem = refl }
+
+    module _ (x : c ≡ true) (d : Bool) (m₁ : List ℕ) (w : Wrote t m a bs d m₁) where
+      pub both-no-first : d ≡ false → WroteBoth t m a bs b cs false m₁
+      both-no-first f =
+          let g : writable t (length m) a (length bs) ≡ false = sym (w .ok) ∙ f in
+          record { ok = sym (rw g); mem = w .mem ∙ after-refused t m a bs g }
+
+      pub both-done : d ≡ true → (r : Bool) (m₂ : List ℕ) → Wrote t m₁ b cs r m₂ → WroteBoth t m a bs b cs r m₂
+      both-done f r m₂ v =
+          let g : writable t (length m) a (length bs) ≡ true = sym (w .ok) ∙ f in
+          let l : length m₁ ≡ length m = ap length (w .mem) ∙ after-length t m a bs in
+          let k : r ≡ true = v .ok ∙ ap (λ (z : ℕ). writable t z b (length cs)) l ∙ sym e ∙ x in
+          record {
+            ok = rw g (k ∙ sym x ∙ e);
+            mem = rw k (v .mem ∙ ap (λ (z : List ℕ). after t z b cs) (w .mem));
+          }
 
 -- ---- places of the table
 -- a place that the table maps from no address is none of them

@@ -2,9 +2,11 @@
 // Guest memory: one lent slice, and the lent table of regions that maps guest addresses to it. The only functions that touch it.
 //
 // An access at addr + off works if all its bytes are in memory, also where they lie in several regions; otherwise it fails as a
-// whole and nothing is written. Each function has a fast way, where one row holds all the bytes, and leaves everything else to a
-// function of its own that goes byte by byte.
+// whole and nothing is written. There are three ways, from the fast to the slow: the first row holds all the bytes; a later row
+// does; the bytes are looked for one by one. What a queue does in every round tries the first row in place and leaves everything else
+// to a function that is called, from two places or more: the compiler builds in what has a single caller, whatever its size.
 use regions::Place;
+use regions::Side;
 use regions::Stretch;
 ghost use mathlib.Core.Path.{_≡_};
 ghost use mathlib.Core.Bool.{true};
@@ -14,9 +16,9 @@ ghost use lib.Seq.{sets};
 ghost use Rattle.wire.specs.Number.{number, bytes};
 ghost use Rattle.wire.specs.Part.{part};
 ghost use Rattle.regions.specs.Table.{spot};
-ghost use Rattle.regions.specs.Spots.{covered, spots};
+ghost use Rattle.regions.specs.Spots.{Seated, covered, spots};
 ghost use Rattle.memory.specs.Cells.{cell, fetch, store1, store};
-ghost use Rattle.memory.specs.Access.{readable, writable, Wrote, read2Of, read16Of, fieldsOf, pairBytes, fieldBytes};
+ghost use Rattle.memory.specs.Access.{readable, writable, Wrote, WroteBoth, read2Of, read16Of, fieldsOf, pairBytes, fieldBytes};
 
 // What a read of 2 bytes finds.
 pub enum Got2 {
@@ -132,12 +134,25 @@ fn read2_across(regions: &[u64], mem: &[u8], addr: u64, off: u32) -> Got2
     Got2::Value(read2_into(regions, mem, addr + off as u64, &mut out))
 }
 
-pub fn read2(regions: &[u64], mem: &[u8], addr: u64, off: u32) -> Got2
+fn read2_far(regions: &[u64], mem: &[u8], addr: u64, off: u32) -> Got2
     ensures { λ r. ⌜ r ≡ read2Of (now (regions .entry)) (now (mem .entry)) (addr + off) ⌝ }
 {
     match regions::locate(regions, mem.len(), addr, off, 2) {
         Place::At(i) => Got2::Value(wire::get2(mem, i)),
         Place::Nowhere => read2_across(regions, mem, addr, off),
+    }
+}
+
+pub fn read2(regions: &[u64], mem: &[u8], addr: u64, off: u32) -> Got2
+    ensures { λ r. ⌜ r ≡ read2Of (now (regions .entry)) (now (mem .entry)) (addr + off) ⌝ }
+{
+    if regions.len() < 3 {
+        return read2_far(regions, mem, addr, off);
+    }
+    match regions::seat(regions[0], regions[1], regions[2], mem.len(), addr, off, 2) {
+        Side::All(i) => Got2::Value(wire::get2(mem, i)),
+        Side::Away => read2_far(regions, mem, addr, off),
+        Side::Split => read2_far(regions, mem, addr, off),
     }
 }
 
@@ -170,12 +185,25 @@ fn read16_across(regions: &[u64], mem: &[u8], addr: u64, off: u32) -> Got16
     read16_into(regions, mem, addr + off as u64, &mut out)
 }
 
-pub fn read16(regions: &[u64], mem: &[u8], addr: u64, off: u32) -> Got16
+fn read16_far(regions: &[u64], mem: &[u8], addr: u64, off: u32) -> Got16
     ensures { λ r. ⌜ r ≡ read16Of (now (regions .entry)) (now (mem .entry)) (addr + off) ⌝ }
 {
     match regions::locate(regions, mem.len(), addr, off, 16) {
         Place::At(i) => fields_at(mem, i),
         Place::Nowhere => read16_across(regions, mem, addr, off),
+    }
+}
+
+pub fn read16(regions: &[u64], mem: &[u8], addr: u64, off: u32) -> Got16
+    ensures { λ r. ⌜ r ≡ read16Of (now (regions .entry)) (now (mem .entry)) (addr + off) ⌝ }
+{
+    if regions.len() < 3 {
+        return read16_far(regions, mem, addr, off);
+    }
+    match regions::seat(regions[0], regions[1], regions[2], mem.len(), addr, off, 16) {
+        Side::All(i) => fields_at(mem, i),
+        Side::Away => read16_far(regions, mem, addr, off),
+        Side::Split => read16_far(regions, mem, addr, off),
     }
 }
 
@@ -251,6 +279,67 @@ pub fn write8(regions: &[u64], mem: &mut [u8], addr: u64, off: u32, x: u32, y: u
             true
         }
         Place::Nowhere => write8_across(regions, mem, addr, off, x, y),
+    }
+}
+
+fn first_place(regions: &[u64], size: usize, addr: u64, off: u32, n: u32) -> Place
+    ensures { λ p. ⌜ Seated (now (regions .entry)) size (addr + off) n p ⌝ }
+{
+    if regions.len() < 3 {
+        return Place::Nowhere;
+    }
+    match regions::seat(regions[0], regions[1], regions[2], size, addr, off, n) {
+        Side::All(i) => Place::At(i),
+        Side::Away => Place::Nowhere,
+        Side::Split => Place::Nowhere,
+    }
+}
+
+// Whether the second can be written is asked before the first is: a refusal leaves no trace.
+fn write8_then2_far(
+    regions: &[u64],
+    mem: &mut [u8],
+    addr: u64,
+    off: u32,
+    x: u32,
+    y: u32,
+    off2: u32,
+    v: u16,
+) -> bool
+    ensures { λ r. ⌜ WroteBoth (now (regions .entry)) (now (mem .entry)) (addr + off) (pairBytes x y) (addr + off2) (bytes 2 v) r (now (mem .exit)) ⌝ }
+{
+    if !can_write(regions, mem.len(), addr, off2, 2) {
+        return false;
+    }
+    if !write8(regions, mem, addr, off, x, y) {
+        return false;
+    }
+    write2(regions, mem, addr, off2, v)
+}
+
+// Two numbers of 4 bytes at addr + off and then one of 2 bytes at addr + off2, both or neither: an entry of a ring, and its idx.
+pub fn write8_then2(
+    regions: &[u64],
+    mem: &mut [u8],
+    addr: u64,
+    off: u32,
+    x: u32,
+    y: u32,
+    off2: u32,
+    v: u16,
+) -> bool
+    ensures { λ r. ⌜ WroteBoth (now (regions .entry)) (now (mem .entry)) (addr + off) (pairBytes x y) (addr + off2) (bytes 2 v) r (now (mem .exit)) ⌝ }
+{
+    match first_place(regions, mem.len(), addr, off, 8) {
+        Place::At(i) => match first_place(regions, mem.len(), addr, off2, 2) {
+            Place::At(j) => {
+                put_pair(mem, i, x, y);
+                wire::put2(mem, j, v);
+                true
+            }
+            Place::Nowhere => write8_then2_far(regions, mem, addr, off, x, y, off2, v),
+        },
+        Place::Nowhere => write8_then2_far(regions, mem, addr, off, x, y, off2, v),
     }
 }
 

@@ -12,10 +12,9 @@ use borrow.Author.Tests.{lt-ltb, le-ltb, ltb-true, ltb-false}
 use Rattle.wire.specs.Number.{bytes}
 use Rattle.wire.specs.Part.{Apart}
 use Rattle.regions.specs.Table.{pick, Table, Maps, InMemory, Good}
-use Rattle.memory.specs.Access.{writable, writable-readable, readable-all, after, bytesAt, Wrote, Outside, Agree, after-length, after-refused, after-agree, after-elsewhere, after-unmapped, bytes-apart, bytes-back}
+use Rattle.memory.specs.Access.{writable, writable-readable, readable-all, after, bytesAt, WroteBoth, Outside, Agree, after-length, after-refused, after-agree, after-elsewhere, after-unmapped, bytes-apart, bytes-back}
 use Rattle.desc.specs.Layout.{usedEntryAddr, usedIdxAddr}
 use Rattle.desc.specs.Desc.{usedBytes}
-use Rattle.queue.specs.Cases.{pick-same}
 use Rattle.queue.specs.State.{numbered}
 use Rattle.queue.specs.Wrap.{next16}
 use Rattle.queue.specs.declared.Queue.{Queue}
@@ -58,11 +57,6 @@ putMem t q m head n = pick (ltb head (q .size)) (pick (room t q (length m)) (wit
 pub record Put (t : Table) (q : Queue) (m : List ℕ) (head n : ℕ) (r : Placed) (m′ : List ℕ) : Type 0 where
   pub answer : r ≡ putOf t q m head n
   pub mem : m′ ≡ putMem t q m head n
-
--- what writing an entry, and idx after it, answers and leaves
-pub record Published (t : Table) (m : List ℕ) (ring entry id n idx : ℕ) (r : Bool) (m′ : List ℕ) : Type 0 where
-  pub ok : r ≡ pick (writable t (length m) entry 8) (writable t (length m) (usedIdxAddr ring) 2) false
-  pub mem : m′ ≡ pick r (after t (after t m entry (usedBytes id n)) (usedIdxAddr ring) (bytes 2 idx)) m
 
 -- ---- room
 module _ (t : Table) (q : Queue) (size : ℕ) where
@@ -115,33 +109,12 @@ module _ (t : Table) (q : Queue) (m : List ℕ) (head n : ℕ) where
   unfolding putOf putMem
   put-done h e = record { answer = rw (lt-ltb _ _ h, e); mem = rw (lt-ltb _ _ h, e) }
 
--- ---- for the proof of `publish`
-module _ (t : Table) (m : List ℕ) (ring entry id n idx : ℕ) (a : Bool) (e : a ≡ writable t (length m) (ring + 2) 2) where
-  pub published-no-idx : a ≡ false → Published t m ring entry id n idx false m
-  published-no-idx f = record { ok = sym (rw (sym e ∙ f, pick-same (writable t (length m) entry 8) false)); mem = refl }
-
-  module _ (x : a ≡ true) (b : Bool) (m₁ : List ℕ) (w : Wrote t m entry (usedBytes id n) b m₁) where
-    pub published-no-entry : b ≡ false → Published t m ring entry id n idx false m₁
-    published-no-entry f =
-        let g : writable t (length m) entry 8 ≡ false = sym (w .ok) ∙ f in
-        record { ok = sym (rw g); mem = w .mem ∙ after-refused t m entry (usedBytes id n) g }
-
-    pub published-both : b ≡ true → (r : Bool) (m₂ : List ℕ) → Wrote t m₁ (ring + 2) (bytes 2 idx) r m₂ → Published t m ring entry id n idx r m₂
-    published-both f r m₂ v =
-        let g : writable t (length m) entry 8 ≡ true = sym (w .ok) ∙ f in
-        let l : length m₁ ≡ length m = ap length (w .mem) ∙ after-length t m entry (usedBytes id n) in
-        let k : r ≡ true = v .ok ∙ ap (λ (z : ℕ). writable t z (ring + 2) 2) l ∙ sym e ∙ x in
-        record {
-          ok = rw (g) (k ∙ sym x ∙ e);
-          mem = rw k (v .mem ∙ ap (λ (z : List ℕ). after t z (ring + 2) (bytes 2 idx)) (w .mem));
-        }
-
 pub grown-is : (q : Queue) (used added : ℕ) → used ≡ next16 (q .«next_used») → added ≡ next16 (q .«num_added») → numbered q (q .«next_avail») used added ≡ grown q
 grown-is q used added e f = rw (e, f)
 
 -- ---- for the proof of `add_used`
 module _ (t : Table) (q : Queue) (m : List ℕ) (head n : ℕ) (inside : head < q .size) (off : ℕ) (o : off ≡ 4 + 8 * (q .«next_used» % q .size))
-    (p : Queue) (e : p ≡ grown q) (r : Bool) (m₁ : List ℕ) (w : Published t m (q .«used_ring») (q .«used_ring» + off) head n (p .«next_used») r m₁) where
+    (p : Queue) (e : p ≡ grown q) (r : Bool) (m₁ : List ℕ) (w : WroteBoth t m (q .«used_ring» + off) (usedBytes head n) (idxAddr q) (bytes 2 (p .«next_used»)) r m₁) where
   room-is : r ≡ room t q (length m)
   unfolding room
   room-is = rw o at (w .ok)

@@ -8,29 +8,7 @@ use memory::Got2;
 ghost use mathlib.Core.Path.{_≡_};
 ghost use Prim.Native.Nat.{_+_};
 ghost use Rattle.memory.specs.Access.{read2Of};
-ghost use Rattle.queue.specs.Used.{idxAddr, grown, Published, Put};
-
-// The entry before idx: a driver that sees the new idx finds the entry in its place. Whether idx can be written is asked first, so that
-// a refusal leaves no trace: the crate would have written the entry and grown its numbers by then.
-fn publish(
-    regions: &[u64],
-    mem: &mut [u8],
-    ring: u64,
-    off: u32,
-    id: u32,
-    len: u32,
-    idx: u16,
-) -> bool
-    ensures { λ r. ⌜ Published (now (regions .entry)) (now (mem .entry)) ring (ring + off) id len idx r (now (mem .exit)) ⌝ }
-{
-    if !memory::can_write(regions, mem.len(), ring, 2, 2) {
-        return false;
-    }
-    if !desc::write_used_elem(regions, mem, ring, off, id, len) {
-        return false;
-    }
-    memory::write2(regions, mem, ring, 2, idx)
-}
+ghost use Rattle.queue.specs.Used.{idxAddr, grown, Put};
 
 fn grown_queue(mut q: Queue) -> Queue
     ensures { λ r. ⌜ r ≡ grown q ⌝ }
@@ -57,7 +35,8 @@ impl Queue {
         }
         let off = ring::used_entry_offset(self.next_used, self.size);
         let q = grown_queue(self);
-        if !publish(
+        // whether idx can be written is known before the entry is: the crate would have written it and grown its numbers by then
+        if !desc::publish_used(
             regions,
             mem,
             self.used_ring,

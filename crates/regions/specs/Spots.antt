@@ -78,6 +78,9 @@ pub record Seated (t : Table) (size a n : ℕ) (p : Place) : Type 0 where
 pub unseated : (t : Table) (size a n : ℕ) → Seated t size a n Nowhere
 unseated t size a n = record { at = λ i e. absurd (let z : _≡_ {A = ℕ} 0 1 = cc in omega arith) }
 
+pub seated-run : (t : Table) (size a n i : ℕ) → RunAt t size a n i → Seated t size a n (At i)
+seated-run t size a n i r = record { at = λ k e. let z : k ≡ i = cc in rw z r }
+
 spots-run : (t : Table) (size a n i : ℕ) → ((j x y : ℕ) → j < n → x ≡ a + j → y ≡ i + j → spot t size x ≡ At y) → spots t size a n ≡ run i n
 unfolding spots
 spots-run t size a zero i f = refl
@@ -102,8 +105,7 @@ run-part t size a n i r k j h =
     }
 
 pub seated : (t : Table) (size a n i : ℕ) → i + n ≤ size → ((j x y : ℕ) → j < n → x ≡ a + j → y ≡ i + j → spot t size x ≡ At y) → Seated t size a n (At i)
-seated t size a n i l f =
-    record { at = λ k e. let z : k ≡ i = cc in rw z (record { is = spots-run t size a n i f; fits = l }) }
+seated t size a n i l f = seated-run t size a n i (record { is = spots-run t size a n i f; fits = l })
 
 -- ---- for the proofs of `side_of` and `find_run`: what one row says of n bytes
 pub record Sided (r : Row) (size a n : ℕ) (s : side.Side) : Type 0 where
@@ -151,6 +153,15 @@ module _ (t : Table) (size a n k i : ℕ) (z : 0 < k) (h : i + 3 ≤ length t) (
       let v = w .all l e in
       let m : Holds (rowAt t i) size x y = record { above = omega arith; inside = omega arith; is = omega arith } in
       spot-is t size x ∙ ap placeOf (u .rest j x b o ∙ stretch-row t size x k i z h _ (sym (stretchR-in (rowAt t i) size x y _ m refl)))
+
+-- a first row that holds them all gives a run
+pub first-run : (t : Table) (size a n : ℕ) → 3 ≤ length t → (s : side.Side) → Sided (rowAt t 0) size a n s → (i : ℕ) → s ≡ All i → RunAt t size a n i
+first-run t size a n h s w i e =
+    let v = w .all i e in
+    record {
+      is = spots-run t size a n i (skipped-here t size a n 8 0 (omega arith) (omega arith) (skipped-start t size a n) s w i e);
+      fits = v .3;
+    }
 
 -- ---- each place is one to which the table maps its byte's address
 abbrev pub Mapped : Table → ℕ → ℕ → List Place → Type 0

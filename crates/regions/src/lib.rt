@@ -126,6 +126,33 @@ fn side_of(base: u64, len: u64, offset: u64, size: usize, a: u64, n: u64) -> Sid
     Side::All((offset + d) as usize)
 }
 
+// Whether one row holds all of an access of n bytes at addr + off. There is no loop here and no further call: so it is built into the
+// accesses, which try the table's first row with it before they call anything.
+pub fn seat(base: u64, len: u64, offset: u64, size: usize, addr: u64, off: u32, n: u32) -> Side
+    ensures { λ s. ⌜ Sided (row base len offset) size (addr + off) n s ⌝ }
+{
+    let span = off as u64 + n as u64;
+    if u64::MAX - addr < span {
+        return Side::Split;
+    }
+    let a = addr + off as u64;
+    if a < base {
+        return Side::Split;
+    }
+    let end = a - base + n as u64;
+    if len < end {
+        return Side::Split;
+    }
+    let all = size as u64;
+    if all < offset {
+        return Side::Split;
+    }
+    if all - offset < end {
+        return Side::Split;
+    }
+    Side::All((offset + (a - base)) as usize)
+}
+
 // The fast way: the first row that holds any of the n bytes, if it holds them all.
 fn find_run(regions: &[u64], size: usize, a: u64, n: u64) -> Place
     requires { ⌜ a + n ≤ 2 ^ 64 ⌝ }

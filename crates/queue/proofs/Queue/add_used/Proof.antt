@@ -14,20 +14,20 @@ used-entry-offset-requires c κs = search needs
 grown-queue-requires : tie.Need-grown-queue-requires
 grown-queue-requires c κs = search needs
 
-publish-requires : tie.Need-publish-requires
-publish-requires c κs = search needs
+publish-used-requires : tie.Need-publish-used-requires
+publish-used-requires c κs = search needs
 
 same-length : tie.Need-same-length
 same-length c = search needs
 
 returns-2 : tie.Need-returns-2
-returns-2 c = placed-refused _ _ _ _ _ (c .before .before .before .before .before .before .before .if1 .left) _ (c .before .before .before .before .before .before .used-entry-offset .ensures) _ (c .before .before .before .before .before .grown-queue .ensures) _ _ (c .before .before .before .publish .ensures) (not-true _ (c .if2 .taken))
+returns-2 c = placed-refused _ _ _ _ _ (c .before .before .before .before .before .before .before .if1 .left) _ (c .before .before .before .before .before .before .used-entry-offset .ensures) _ (c .before .before .before .before .before .grown-queue .ensures) _ _ (c .before .before .before .publish-used .ensures) (not-true _ (c .if2 .taken))
 
 same-length-2 : tie.Need-same-length-2
 same-length-2 c = search needs
 
 returns-3 : tie.Need-returns-3
-returns-3 c = placed-done _ _ _ _ _ (c .before .before .before .before .before .before .before .if1 .left) _ (c .before .before .before .before .before .before .used-entry-offset .ensures) _ (c .before .before .before .before .before .grown-queue .ensures) _ _ (c .before .before .before .publish .ensures) (not-false _ (c .if2 .left))
+returns-3 c = placed-done _ _ _ _ _ (c .before .before .before .before .before .before .before .if1 .left) _ (c .before .before .before .before .before .before .used-entry-offset .ensures) _ (c .before .before .before .before .before .grown-queue .ensures) _ _ (c .before .before .before .publish-used .ensures) (not-false _ (c .if2 .left))
 
 pub add-used-spec : {M : Type 1} → statement M
 add-used-spec =
@@ -36,7 +36,7 @@ add-used-spec =
     returns
     used-entry-offset-requires
     grown-queue-requires
-    publish-requires
+    publish-used-requires
     same-length
     returns-2
     same-length-2

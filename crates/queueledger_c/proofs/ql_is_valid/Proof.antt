@@ -1,0 +1,23 @@
+-- SPDX-License-Identifier: Apache-2.0 AND BSD-3-Clause
+use borrow.Author.Needs.{needs}
+use Rattle.queueledger_c.proofs.ql_is_valid.Statement.{statement}
+use Rattle.queueledger_c.proofs.ql_is_valid.Tie as tie
+
+load-requires : tie.Need-load-requires
+load-requires c κs = search needs
+
+is-valid-requires : tie.Need-is-valid-requires
+is-valid-requires c κs = search needs
+
+settle-requires : tie.Need-settle-requires
+settle-requires c κs = search needs
+
+same-length : tie.Need-same-length
+same-length c = search needs
+
+returns : tie.Need-returns
+returns c = rw (← c .before .before .before .before .load .ensures, ← c .before .before .before .is-valid .ensures) (c .before .before .settle .ensures)
+
+pub ql-is-valid-spec : {M : Type 1} → statement M
+ql-is-valid-spec =
+    tie.close (tie.spec load-requires is-valid-requires settle-requires same-length returns)

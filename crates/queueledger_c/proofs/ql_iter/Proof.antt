@@ -1,0 +1,22 @@
+-- SPDX-License-Identifier: Apache-2.0 AND BSD-3-Clause
+use borrow.Author.Needs.{needs}
+use Rattle.queueledger_c.proofs.ql_iter.Statement.{statement}
+use Rattle.queueledger_c.proofs.ql_iter.Tie as tie
+
+load-requires : tie.Need-load-requires
+load-requires c κs = search needs
+
+iter-requires : tie.Need-iter-requires
+iter-requires c κs = search needs
+
+settle-requires : tie.Need-settle-requires
+settle-requires c κs = search needs
+
+same-length : tie.Need-same-length
+same-length c = search needs
+
+returns : tie.Need-returns
+returns c = rw (← c .before .before .before .before .load .ensures, ← c .before .before .before .iter .ensures) (c .before .before .settle .ensures)
+
+pub ql-iter-spec : {M : Type 1} → statement M
+ql-iter-spec = tie.close (tie.spec load-requires iter-requires settle-requires same-length returns)
