@@ -12,7 +12,7 @@ pub fn add_regions(count: u64, size: usize, table: &mut [u64]) {
     let mut base: u64 = 0;
     let mut left = count;
     while 0 < left {
-        regions::add_region(table, size, base, share, base);
+        adding::add_region(table, size, base, share, base);
         base = std::num::wrapping_add_u64(base, share);
         left -= 1;
     }

@@ -6,8 +6,8 @@ use mathlib.Core.List.{List}
 use lib.ListN.{length}
 use lib.Dec.{leb}
 use Rattle.regions.specs.Table.{pick, Table}
-use Rattle.regions.specs.declared.Adding as adding
-use Rattle.regions.specs.declared.Adding.the-variants.{Added, Full, Empty, PastTop, PastSlice, Overlap}
+use Rattle.adding.specs.declared.Adding as adding
+use Rattle.adding.specs.declared.Adding.the-variants.{Added, Full, Empty, PastTop, PastSlice, Overlap}
 use Rattle.memory.specs.declared.Got2.{Got2}
 use Rattle.memory.specs.declared.Got2.the-variants.{Value, Fault2}
 use Rattle.queue.specs.Used.{putOf, putMem}

@@ -7,7 +7,7 @@
 use Prim.Native.Nat.{ℕ, _+_, _≤_, _<_, max}
 use native.Mathlib.Omega.{arith}
 use mathlib.Core.Path.{_≡_, refl, sym, ap, _∙_}
-use mathlib.Core.Bool.{Bool, true, false, true≢false}
+use mathlib.Core.Bool.{Bool, true, false, not, true≢false}
 use mathlib.Core.List.{List, [], _∷_}
 use lib.ListN.{length, getD}
 use lib.Seq.{sets}
@@ -66,6 +66,14 @@ kept ws (Same c) = ws
 pub record Settled (ws : List ℕ) (x : Reply) (r : ℕ) (ws′ : List ℕ) : Type 0 where
   pub answer : r ≡ codeOf x
   pub state : ws′ ≡ kept ws x
+
+-- a call on the queue that the words hold, if they hold one: what it answers, and the words afterwards
+abbrev pub Called : List ℕ → (Queue → Reply) → ℕ → List ℕ → Type 0
+Called ws f r ws′ = Settled ws (onLoaded (loadOf ws) f) r ws′
+
+-- a number that crosses as a flag: any but 0 sets it
+abbrev pub isSet : ℕ → Bool
+isSet n = not (eqb n 0)
 
 -- ---- for the proofs of `fields_fit`, `queue_in`, `load` and `settle`
 pub pick-true : (a b : Bool) → pick a b false ≡ true → (a ≡ true) × (b ≡ true)

@@ -22,7 +22,7 @@ use Rattle.queue.specs.Avail.{headOf}
 use Rattle.queue.specs.declared.Queue.{Queue}
 use Rattle.queue.specs.declared.Taken.{Taken}
 use Rattle.queue.specs.declared.Taken.the-variants.{Head, NoHead}
-use Rattle.lent.specs.State.{pick-true}
+use Rattle.lent.specs.State.{pick-true, loadOf, kept}
 use Rattle.lent.specs.declared.state.Loaded.{Loaded}
 use Rattle.lent.specs.declared.state.Loaded.the-variants.{Good, Bad}
 use Rattle.lent.specs.declared.state.Reply.{Reply}
@@ -141,6 +141,19 @@ takenReply (Not k) = Same k
 abbrev pub onTaking : {A : Type 0} → Taking → (DescriptorChain → A) → (ℕ → A) → A
 onTaking (Took h q) f g = f (chainAt (q .«desc_table») (q .size) h)
 onTaking (Not k) f g = g k
+
+-- ---- what the calls on a chain answer, and what they leave in its words and in the array
+pub record WentOn (cs : List ℕ) (x : Went) (array : List ℕ) (r : ℕ) (cs′ out′ : List ℕ) : Type 0 where
+  pub answer : r ≡ wentCode x
+  pub chain : cs′ ≡ keptChain cs x
+  pub filled : out′ ≡ array
+
+abbrev pub taking : Table → List ℕ → ℕ → List ℕ → List ℕ → List ℕ → Taking
+taking t m last ws cs out = takeOf t m last (length cs) (length out) (loadOf ws)
+
+pub record TookAll (t : Table) (m : List ℕ) (last : ℕ) (ws cs out : List ℕ) (r : ℕ) (ws′ cs′ out′ : List ℕ) : Type 0 where
+  pub went : WentOn cs (onTaking (taking t m last ws cs out) (wentWalk t m out) Stay) (onTaking (taking t m last ws cs out) (walkArray t m out) (λ k. out)) r cs′ out′
+  pub state : ws′ ≡ kept ws (takenReply (taking t m last ws cs out))
 
 -- ---- for the proofs of `fields_fit`, `chain_in` and `load_chain`
 module _ (ws : List ℕ) where

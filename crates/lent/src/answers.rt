@@ -3,6 +3,7 @@
 use crate::state;
 use crate::state::Loaded;
 use crate::state::Reply;
+use adding::Adding;
 use memory::Got2;
 use queue::Answered;
 use queue::Asked;
@@ -15,7 +16,6 @@ use queue::Placed;
 use queue::Queue;
 use queue::Stopped;
 use queue::Taken;
-use regions::Adding;
 ghost use mathlib.Core.Path.{_≡_};
 ghost use Rattle.lent.specs.Answers.{errorCode, configured, got, begun, taken, placed, stopped, asked, answered, halfOf, putThenAnswered, addingCode};
 

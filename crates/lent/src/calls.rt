@@ -8,16 +8,14 @@ use queue::AvailIter;
 use queue::Placed;
 use queue::Queue;
 ghost use mathlib.Core.Path.{_≡_};
-ghost use mathlib.Core.Bool.{not};
 ghost use lib.ListN.{length};
-ghost use lib.Dec.{eqb};
 ghost use Rattle.memory.specs.Access.{read2Of};
 ghost use Rattle.queue.specs.State.{pass, withReady, withEventIdx, withNextAvail, withNextUsed};
 ghost use Rattle.queue.specs.Config.{newOf, resetOf, setSizeOf, setDescTableOf, setAvailRingOf, setUsedRingOf, validOf};
 ghost use Rattle.queue.specs.Avail.{idxRead, beginOf, headOf, popOf, backOf};
 ghost use Rattle.queue.specs.Used.{idxAddr, putOf, putMem};
 ghost use Rattle.queue.specs.Notify.{stopOf, stopMem, askOf, askMem, questionOf};
-ghost use Rattle.lent.specs.State.{bit, onLoaded};
+ghost use Rattle.lent.specs.State.{bit, isSet, onLoaded};
 ghost use Rattle.lent.specs.Answers.{madeOn, askedAfter, configured, got, begun, taken, placed, stopped, asked, answered, halfOf, putAsked, memOf};
 ghost use Rattle.lent.specs.declared.state.Reply.the-variants.{Now, Same};
 
@@ -40,7 +38,7 @@ pub fn set_size(x: Loaded, size: u16) -> Reply
 }
 
 pub fn set_desc_table_address(x: Loaded, has_low: u32, low: u32, has_high: u32, high: u32) -> Reply
-    ensures { λ r. ⌜ r ≡ onLoaded x (λ q. configured (setDescTableOf q (halfOf (not (eqb «has_low» 0)) low) (halfOf (not (eqb «has_high» 0)) high))) ⌝ }
+    ensures { λ r. ⌜ r ≡ onLoaded x (λ q. configured (setDescTableOf q (halfOf (isSet «has_low») low) (halfOf (isSet «has_high») high))) ⌝ }
 {
     match x {
         Loaded::Good(q) => answers::of_configured(q.set_desc_table_address(
@@ -52,7 +50,7 @@ pub fn set_desc_table_address(x: Loaded, has_low: u32, low: u32, has_high: u32, 
 }
 
 pub fn set_avail_ring_address(x: Loaded, has_low: u32, low: u32, has_high: u32, high: u32) -> Reply
-    ensures { λ r. ⌜ r ≡ onLoaded x (λ q. configured (setAvailRingOf q (halfOf (not (eqb «has_low» 0)) low) (halfOf (not (eqb «has_high» 0)) high))) ⌝ }
+    ensures { λ r. ⌜ r ≡ onLoaded x (λ q. configured (setAvailRingOf q (halfOf (isSet «has_low») low) (halfOf (isSet «has_high») high))) ⌝ }
 {
     match x {
         Loaded::Good(q) => answers::of_configured(q.set_avail_ring_address(
@@ -64,7 +62,7 @@ pub fn set_avail_ring_address(x: Loaded, has_low: u32, low: u32, has_high: u32, 
 }
 
 pub fn set_used_ring_address(x: Loaded, has_low: u32, low: u32, has_high: u32, high: u32) -> Reply
-    ensures { λ r. ⌜ r ≡ onLoaded x (λ q. configured (setUsedRingOf q (halfOf (not (eqb «has_low» 0)) low) (halfOf (not (eqb «has_high» 0)) high))) ⌝ }
+    ensures { λ r. ⌜ r ≡ onLoaded x (λ q. configured (setUsedRingOf q (halfOf (isSet «has_low») low) (halfOf (isSet «has_high») high))) ⌝ }
 {
     match x {
         Loaded::Good(q) => answers::of_configured(q.set_used_ring_address(
@@ -76,7 +74,7 @@ pub fn set_used_ring_address(x: Loaded, has_low: u32, low: u32, has_high: u32, h
 }
 
 pub fn set_ready(x: Loaded, ready: u32) -> Reply
-    ensures { λ r. ⌜ r ≡ onLoaded x (λ q. Now 0 (withReady q (not (eqb ready 0)))) ⌝ }
+    ensures { λ r. ⌜ r ≡ onLoaded x (λ q. Now 0 (withReady q (isSet ready))) ⌝ }
 {
     match x {
         Loaded::Good(q) => Reply::Now(0, q.set_ready(ready != 0)),
@@ -85,7 +83,7 @@ pub fn set_ready(x: Loaded, ready: u32) -> Reply
 }
 
 pub fn set_event_idx(x: Loaded, enabled: u32) -> Reply
-    ensures { λ r. ⌜ r ≡ onLoaded x (λ q. Now 0 (withEventIdx q (not (eqb enabled 0)))) ⌝ }
+    ensures { λ r. ⌜ r ≡ onLoaded x (λ q. Now 0 (withEventIdx q (isSet enabled))) ⌝ }
 {
     match x {
         Loaded::Good(q) => Reply::Now(0, q.set_event_idx(enabled != 0)),

@@ -83,7 +83,7 @@ pub fn flag(b: bool) -> u32
     if b { 1 } else { 0 }
 }
 
-pub fn keep(state: &mut [u64], q: Queue)
+fn keep(state: &mut [u64], q: Queue)
     requires { ⌜ 10 ≤ length (now state) ⌝ }
     ensures { λ _. ⌜ now (state .exit) ≡ sets (now (state .entry)) 0 (wordsOf q) ⌝ }
 {

@@ -91,7 +91,7 @@ pub fn load_chain(words: &[u64]) -> Held
     Held::Chain(chain_in(words))
 }
 
-pub fn keep_chain(words: &mut [u64], c: DescriptorChain)
+fn keep_chain(words: &mut [u64], c: DescriptorChain)
     requires { ⌜ 6 ≤ length (now words) ⌝ }
     ensures { λ _. ⌜ now (words .exit) ≡ sets (now (words .entry)) 0 (chainWords c) ⌝ }
 {
@@ -103,7 +103,7 @@ pub fn keep_chain(words: &mut [u64], c: DescriptorChain)
     words[5] = c.yielded_bytes as u64;
 }
 
-pub fn put_triple(out: &mut [u64], at: usize, d: Descriptor)
+fn put_triple(out: &mut [u64], at: usize, d: Descriptor)
     requires { ⌜ at + 3 ≤ length (now out) ⌝ }
     ensures { λ _. ⌜ now (out .exit) ≡ sets (now (out .entry)) at (triple d) ⌝ }
 {
@@ -113,7 +113,7 @@ pub fn put_triple(out: &mut [u64], at: usize, d: Descriptor)
 }
 
 // As many descriptors as there are, or as the array has room for.
-pub fn walk_into(start: DescriptorChain, regions: &[u64], mem: &[u8], out: &mut [u64]) -> Walked
+fn walk_into(start: DescriptorChain, regions: &[u64], mem: &[u8], out: &mut [u64]) -> Walked
     ensures { λ w. ⌜ Filled (now (regions .entry)) (now (mem .entry)) start (now (out .entry)) w (now (out .exit)) ⌝ }
 {
     let mut c = start;

@@ -303,21 +303,21 @@ fn write8_then2_far(
     off: u32,
     x: u32,
     y: u32,
-    off2: u32,
+    then_off: u32,
     v: u16,
 ) -> bool
-    ensures { λ r. ⌜ WroteBoth (now (regions .entry)) (now (mem .entry)) (addr + off) (pairBytes x y) (addr + off2) (bytes 2 v) r (now (mem .exit)) ⌝ }
+    ensures { λ r. ⌜ WroteBoth (now (regions .entry)) (now (mem .entry)) (addr + off) (pairBytes x y) (addr + «then_off») (bytes 2 v) r (now (mem .exit)) ⌝ }
 {
-    if !can_write(regions, mem.len(), addr, off2, 2) {
+    if !can_write(regions, mem.len(), addr, then_off, 2) {
         return false;
     }
     if !write8(regions, mem, addr, off, x, y) {
         return false;
     }
-    write2(regions, mem, addr, off2, v)
+    write2(regions, mem, addr, then_off, v)
 }
 
-// Two numbers of 4 bytes at addr + off and then one of 2 bytes at addr + off2, both or neither: an entry of a ring, and its idx.
+// Two numbers of 4 bytes at addr + off and then one of 2 bytes at addr + then_off, both or neither: an entry of a ring, and its idx.
 pub fn write8_then2(
     regions: &[u64],
     mem: &mut [u8],
@@ -325,21 +325,21 @@ pub fn write8_then2(
     off: u32,
     x: u32,
     y: u32,
-    off2: u32,
+    then_off: u32,
     v: u16,
 ) -> bool
-    ensures { λ r. ⌜ WroteBoth (now (regions .entry)) (now (mem .entry)) (addr + off) (pairBytes x y) (addr + off2) (bytes 2 v) r (now (mem .exit)) ⌝ }
+    ensures { λ r. ⌜ WroteBoth (now (regions .entry)) (now (mem .entry)) (addr + off) (pairBytes x y) (addr + «then_off») (bytes 2 v) r (now (mem .exit)) ⌝ }
 {
     match first_place(regions, mem.len(), addr, off, 8) {
-        Place::At(i) => match first_place(regions, mem.len(), addr, off2, 2) {
+        Place::At(i) => match first_place(regions, mem.len(), addr, then_off, 2) {
             Place::At(j) => {
                 put_pair(mem, i, x, y);
                 wire::put2(mem, j, v);
                 true
             }
-            Place::Nowhere => write8_then2_far(regions, mem, addr, off, x, y, off2, v),
+            Place::Nowhere => write8_then2_far(regions, mem, addr, off, x, y, then_off, v),
         },
-        Place::Nowhere => write8_then2_far(regions, mem, addr, off, x, y, off2, v),
+        Place::Nowhere => write8_then2_far(regions, mem, addr, off, x, y, then_off, v),
     }
 }
 

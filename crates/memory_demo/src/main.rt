@@ -1,9 +1,9 @@
 // SPDX-License-Identifier: Apache-2.0 AND BSD-3-Clause
 // Reads and writes of guest memory, printed for a person to check: in one region, across two, at the end of memory, at the top of
 // the address space; and regions added to a table.
+use adding::Adding;
 use libc::STDOUT_FILENO;
 use memory::Got2;
-use regions::Adding;
 
 fn say_read(regions: &[u64], mem: &[u8], addr: u64) {
     io::write_all(STDOUT_FILENO, b"read 2 bytes at 0x");
@@ -65,7 +65,7 @@ fn add(table: &mut [u64], base: u64, len: u64, offset: u64) {
     io::print_decimal(STDOUT_FILENO, len);
     io::write_all(STDOUT_FILENO, b" bytes at ");
     io::print_decimal(STDOUT_FILENO, offset);
-    say_answer(regions::add_region(table, 64, base, len, offset));
+    say_answer(adding::add_region(table, 64, base, len, offset));
 }
 
 fn in_one_region(regions: &[u64], mem: &mut [u8]) {

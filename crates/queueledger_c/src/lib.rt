@@ -2,20 +2,19 @@
 // The library for C and Rust: its calls on numbers and lent slices. The queue is ten words that the caller keeps; every answer is a number
 // (include/queueledger.h has them all). Every function is total: words that hold no queue are refused, and nothing is changed.
 ghost use mathlib.Core.Path.{_≡_};
-ghost use mathlib.Core.Bool.{true, false, not};
+ghost use mathlib.Core.Bool.{true, false};
 ghost use lib.ListN.{length};
-ghost use lib.Dec.{eqb};
-ghost use Rattle.regions.specs.Grow.{addingOf, tableWith};
+ghost use Rattle.adding.specs.Grow.{addingOf, tableWith};
 ghost use Rattle.memory.specs.Access.{read2Of};
 ghost use Rattle.queue.specs.State.{pass, withReady, withEventIdx, withNextAvail, withNextUsed};
 ghost use Rattle.queue.specs.Config.{newOf, resetOf, setSizeOf, setDescTableOf, setAvailRingOf, setUsedRingOf, validOf};
 ghost use Rattle.queue.specs.Avail.{idxRead, beginOf, headOf, popOf, backOf};
 ghost use Rattle.queue.specs.Used.{idxAddr, putOf, putMem};
 ghost use Rattle.queue.specs.Notify.{stopOf, stopMem, askOf, askMem, questionOf};
-ghost use Rattle.lent.specs.State.{bit, kept, loadOf, onLoaded, Settled};
+ghost use Rattle.lent.specs.State.{bit, isSet, loadOf, Settled, Called};
 ghost use Rattle.lent.specs.Answers.{madeOn, configured, got, begun, taken, placed, stopped, asked, answered, halfOf, putAsked, memOf, addingCode};
 ghost use Rattle.chain.specs.Steps.{stepOf, filteredOf};
-ghost use Rattle.lent.specs.Walk.{heldOf, wentCode, keptChain, onHeld, wentWalk, walkArray, wentStep, stepArray, startOf, takeOf, takenReply, onTaking};
+ghost use Rattle.lent.specs.Walk.{heldOf, wentCode, keptChain, onHeld, wentWalk, walkArray, wentStep, stepArray, startOf, WentOn, TookAll};
 ghost use Rattle.lent.specs.declared.walk.Went.the-variants.{Stay};
 ghost use Rattle.lent.specs.declared.state.Reply.the-variants.{Now, Same};
 
@@ -39,13 +38,13 @@ pub extern "C" fn ql_add_region(
     ensures { λ r. ⌜ r ≡ addingCode (addingOf (now (regions .entry)) size base len offset) ⌝ }
     ensures { λ _. ⌜ now (regions .exit) ≡ tableWith (now (regions .entry)) size base len offset ⌝ }
 {
-    lent::answers::adding_code(regions::add_region(regions, size, base, len, offset))
+    lent::answers::adding_code(adding::add_region(regions, size, base, len, offset))
 }
 
 // Everything back to the start, the largest size kept.
 #[no_mangle]
 pub extern "C" fn ql_reset(state: &mut [u64]) -> u32
-    ensures { λ r. ⌜ Settled (now (state .entry)) (onLoaded (loadOf (now (state .entry))) (λ q. Now 0 (resetOf q))) r (now (state .exit)) ⌝ }
+    ensures { λ r. ⌜ Called (now (state .entry)) (λ q. Now 0 (resetOf q)) r (now (state .exit)) ⌝ }
 {
     lent::state::settle(state, lent::calls::reset(lent::state::load(state)))
 }
@@ -53,7 +52,7 @@ pub extern "C" fn ql_reset(state: &mut [u64]) -> u32
 // The size that the driver chose: a power of two, at most the largest size.
 #[no_mangle]
 pub extern "C" fn ql_set_size(state: &mut [u64], size: u16) -> u32
-    ensures { λ r. ⌜ Settled (now (state .entry)) (onLoaded (loadOf (now (state .entry))) (λ q. configured (setSizeOf q size))) r (now (state .exit)) ⌝ }
+    ensures { λ r. ⌜ Called (now (state .entry)) (λ q. configured (setSizeOf q size)) r (now (state .exit)) ⌝ }
 {
     lent::state::settle(state, lent::calls::set_size(lent::state::load(state), size))
 }
@@ -67,7 +66,7 @@ pub extern "C" fn ql_set_desc_table_address(
     has_high: u32,
     high: u32,
 ) -> u32
-    ensures { λ r. ⌜ Settled (now (state .entry)) (onLoaded (loadOf (now (state .entry))) (λ q. configured (setDescTableOf q (halfOf (not (eqb «has_low» 0)) low) (halfOf (not (eqb «has_high» 0)) high)))) r (now (state .exit)) ⌝ }
+    ensures { λ r. ⌜ Called (now (state .entry)) (λ q. configured (setDescTableOf q (halfOf (isSet «has_low») low) (halfOf (isSet «has_high») high))) r (now (state .exit)) ⌝ }
 {
     lent::state::settle(
         state,
@@ -83,7 +82,7 @@ pub extern "C" fn ql_set_avail_ring_address(
     has_high: u32,
     high: u32,
 ) -> u32
-    ensures { λ r. ⌜ Settled (now (state .entry)) (onLoaded (loadOf (now (state .entry))) (λ q. configured (setAvailRingOf q (halfOf (not (eqb «has_low» 0)) low) (halfOf (not (eqb «has_high» 0)) high)))) r (now (state .exit)) ⌝ }
+    ensures { λ r. ⌜ Called (now (state .entry)) (λ q. configured (setAvailRingOf q (halfOf (isSet «has_low») low) (halfOf (isSet «has_high») high))) r (now (state .exit)) ⌝ }
 {
     lent::state::settle(
         state,
@@ -99,7 +98,7 @@ pub extern "C" fn ql_set_used_ring_address(
     has_high: u32,
     high: u32,
 ) -> u32
-    ensures { λ r. ⌜ Settled (now (state .entry)) (onLoaded (loadOf (now (state .entry))) (λ q. configured (setUsedRingOf q (halfOf (not (eqb «has_low» 0)) low) (halfOf (not (eqb «has_high» 0)) high)))) r (now (state .exit)) ⌝ }
+    ensures { λ r. ⌜ Called (now (state .entry)) (λ q. configured (setUsedRingOf q (halfOf (isSet «has_low») low) (halfOf (isSet «has_high») high))) r (now (state .exit)) ⌝ }
 {
     lent::state::settle(
         state,
@@ -110,7 +109,7 @@ pub extern "C" fn ql_set_used_ring_address(
 // A flag is set by any number but 0.
 #[no_mangle]
 pub extern "C" fn ql_set_ready(state: &mut [u64], ready: u32) -> u32
-    ensures { λ r. ⌜ Settled (now (state .entry)) (onLoaded (loadOf (now (state .entry))) (λ q. Now 0 (withReady q (not (eqb ready 0))))) r (now (state .exit)) ⌝ }
+    ensures { λ r. ⌜ Called (now (state .entry)) (λ q. Now 0 (withReady q (isSet ready))) r (now (state .exit)) ⌝ }
 {
     lent::state::settle(
         state,
@@ -120,7 +119,7 @@ pub extern "C" fn ql_set_ready(state: &mut [u64], ready: u32) -> u32
 
 #[no_mangle]
 pub extern "C" fn ql_set_event_idx(state: &mut [u64], enabled: u32) -> u32
-    ensures { λ r. ⌜ Settled (now (state .entry)) (onLoaded (loadOf (now (state .entry))) (λ q. Now 0 (withEventIdx q (not (eqb enabled 0))))) r (now (state .exit)) ⌝ }
+    ensures { λ r. ⌜ Called (now (state .entry)) (λ q. Now 0 (withEventIdx q (isSet enabled))) r (now (state .exit)) ⌝ }
 {
     lent::state::settle(
         state,
@@ -130,7 +129,7 @@ pub extern "C" fn ql_set_event_idx(state: &mut [u64], enabled: u32) -> u32
 
 #[no_mangle]
 pub extern "C" fn ql_set_next_avail(state: &mut [u64], next_avail: u16) -> u32
-    ensures { λ r. ⌜ Settled (now (state .entry)) (onLoaded (loadOf (now (state .entry))) (λ q. Now 0 (withNextAvail q «next_avail»))) r (now (state .exit)) ⌝ }
+    ensures { λ r. ⌜ Called (now (state .entry)) (λ q. Now 0 (withNextAvail q «next_avail»)) r (now (state .exit)) ⌝ }
 {
     lent::state::settle(
         state,
@@ -140,7 +139,7 @@ pub extern "C" fn ql_set_next_avail(state: &mut [u64], next_avail: u16) -> u32
 
 #[no_mangle]
 pub extern "C" fn ql_set_next_used(state: &mut [u64], next_used: u16) -> u32
-    ensures { λ r. ⌜ Settled (now (state .entry)) (onLoaded (loadOf (now (state .entry))) (λ q. Now 0 (withNextUsed q «next_used»))) r (now (state .exit)) ⌝ }
+    ensures { λ r. ⌜ Called (now (state .entry)) (λ q. Now 0 (withNextUsed q «next_used»)) r (now (state .exit)) ⌝ }
 {
     lent::state::settle(
         state,
@@ -151,7 +150,7 @@ pub extern "C" fn ql_set_next_used(state: &mut [u64], next_used: u16) -> u32
 // A step back: the entry before counts as not taken.
 #[no_mangle]
 pub extern "C" fn ql_go_to_previous_position(state: &mut [u64]) -> u32
-    ensures { λ r. ⌜ Settled (now (state .entry)) (onLoaded (loadOf (now (state .entry))) (λ q. Now 0 (backOf q))) r (now (state .exit)) ⌝ }
+    ensures { λ r. ⌜ Called (now (state .entry)) (λ q. Now 0 (backOf q)) r (now (state .exit)) ⌝ }
 {
     lent::state::settle(
         state,
@@ -162,7 +161,7 @@ pub extern "C" fn ql_go_to_previous_position(state: &mut [u64]) -> u32
 // 1 if the queue is ready and its three areas are whole in memory, else 0.
 #[no_mangle]
 pub extern "C" fn ql_is_valid(state: &mut [u64], regions: &[u64], mem: &[u8]) -> u32
-    ensures { λ r. ⌜ Settled (now (state .entry)) (onLoaded (loadOf (now (state .entry))) (λ q. Same (bit (validOf (now (regions .entry)) (length (now (mem .entry))) q)))) r (now (state .exit)) ⌝ }
+    ensures { λ r. ⌜ Called (now (state .entry)) (λ q. Same (bit (validOf (now (regions .entry)) (length (now (mem .entry))) q))) r (now (state .exit)) ⌝ }
 {
     lent::state::settle(
         state,
@@ -173,7 +172,7 @@ pub extern "C" fn ql_is_valid(state: &mut [u64], regions: &[u64], mem: &[u8]) ->
 // The idx of the available ring, and of the used ring, as it stands in memory.
 #[no_mangle]
 pub extern "C" fn ql_avail_idx(state: &mut [u64], regions: &[u64], mem: &[u8]) -> u32
-    ensures { λ r. ⌜ Settled (now (state .entry)) (onLoaded (loadOf (now (state .entry))) (λ q. got (idxRead (now (regions .entry)) q (now (mem .entry))))) r (now (state .exit)) ⌝ }
+    ensures { λ r. ⌜ Called (now (state .entry)) (λ q. got (idxRead (now (regions .entry)) q (now (mem .entry)))) r (now (state .exit)) ⌝ }
 {
     lent::state::settle(
         state,
@@ -183,7 +182,7 @@ pub extern "C" fn ql_avail_idx(state: &mut [u64], regions: &[u64], mem: &[u8]) -
 
 #[no_mangle]
 pub extern "C" fn ql_used_idx(state: &mut [u64], regions: &[u64], mem: &[u8]) -> u32
-    ensures { λ r. ⌜ Settled (now (state .entry)) (onLoaded (loadOf (now (state .entry))) (λ q. got (read2Of (now (regions .entry)) (now (mem .entry)) (idxAddr q)))) r (now (state .exit)) ⌝ }
+    ensures { λ r. ⌜ Called (now (state .entry)) (λ q. got (read2Of (now (regions .entry)) (now (mem .entry)) (idxAddr q))) r (now (state .exit)) ⌝ }
 {
     lent::state::settle(
         state,
@@ -194,7 +193,7 @@ pub extern "C" fn ql_used_idx(state: &mut [u64], regions: &[u64], mem: &[u8]) ->
 // Begin: the idx that is the end of the pass, for ql_next_head and ql_take.
 #[no_mangle]
 pub extern "C" fn ql_iter(state: &mut [u64], regions: &[u64], mem: &[u8]) -> u32
-    ensures { λ r. ⌜ Settled (now (state .entry)) (onLoaded (loadOf (now (state .entry))) (λ q. begun (beginOf (now (regions .entry)) q (now (mem .entry))))) r (now (state .exit)) ⌝ }
+    ensures { λ r. ⌜ Called (now (state .entry)) (λ q. begun (beginOf (now (regions .entry)) q (now (mem .entry)))) r (now (state .exit)) ⌝ }
 {
     lent::state::settle(
         state,
@@ -210,7 +209,7 @@ pub extern "C" fn ql_next_head(
     mem: &[u8],
     last_index: u16,
 ) -> u32
-    ensures { λ r. ⌜ Settled (now (state .entry)) (onLoaded (loadOf (now (state .entry))) (λ q. taken (headOf (now (regions .entry)) q (pass «last_index») (now (mem .entry))))) r (now (state .exit)) ⌝ }
+    ensures { λ r. ⌜ Called (now (state .entry)) (λ q. taken (headOf (now (regions .entry)) q (pass «last_index») (now (mem .entry)))) r (now (state .exit)) ⌝ }
 {
     lent::state::settle(
         state,
@@ -221,7 +220,7 @@ pub extern "C" fn ql_next_head(
 // Pop: begin and next head in one.
 #[no_mangle]
 pub extern "C" fn ql_pop(state: &mut [u64], regions: &[u64], mem: &[u8]) -> u32
-    ensures { λ r. ⌜ Settled (now (state .entry)) (onLoaded (loadOf (now (state .entry))) (λ q. taken (popOf (now (regions .entry)) q (now (mem .entry))))) r (now (state .exit)) ⌝ }
+    ensures { λ r. ⌜ Called (now (state .entry)) (λ q. taken (popOf (now (regions .entry)) q (now (mem .entry)))) r (now (state .exit)) ⌝ }
 {
     lent::state::settle(
         state,
@@ -238,7 +237,7 @@ pub extern "C" fn ql_add_used(
     head: u16,
     len: u32,
 ) -> u32
-    ensures { λ r. ⌜ Settled (now (state .entry)) (onLoaded (loadOf (now (state .entry))) (λ q. placed (putOf (now (regions .entry)) q (now (mem .entry)) head len))) r (now (state .exit)) ⌝ }
+    ensures { λ r. ⌜ Called (now (state .entry)) (λ q. placed (putOf (now (regions .entry)) q (now (mem .entry)) head len)) r (now (state .exit)) ⌝ }
     ensures { λ _. ⌜ now (mem .exit) ≡ memOf (loadOf (now (state .entry))) (λ q. putMem (now (regions .entry)) q (now (mem .entry)) head len) (now (mem .entry)) ⌝ }
 {
     lent::state::settle(
@@ -250,7 +249,7 @@ pub extern "C" fn ql_add_used(
 // Stop.
 #[no_mangle]
 pub extern "C" fn ql_disable_notification(state: &mut [u64], regions: &[u64], mem: &mut [u8]) -> u32
-    ensures { λ r. ⌜ Settled (now (state .entry)) (onLoaded (loadOf (now (state .entry))) (λ q. stopped (stopOf (now (regions .entry)) q (now (mem .entry))))) r (now (state .exit)) ⌝ }
+    ensures { λ r. ⌜ Called (now (state .entry)) (λ q. stopped (stopOf (now (regions .entry)) q (now (mem .entry)))) r (now (state .exit)) ⌝ }
     ensures { λ _. ⌜ now (mem .exit) ≡ memOf (loadOf (now (state .entry))) (λ q. stopMem (now (regions .entry)) q (now (mem .entry))) (now (mem .entry)) ⌝ }
 {
     lent::state::settle(
@@ -262,7 +261,7 @@ pub extern "C" fn ql_disable_notification(state: &mut [u64], regions: &[u64], me
 // Ask: 1 if something came in meanwhile, else 0.
 #[no_mangle]
 pub extern "C" fn ql_enable_notification(state: &mut [u64], regions: &[u64], mem: &mut [u8]) -> u32
-    ensures { λ r. ⌜ Settled (now (state .entry)) (onLoaded (loadOf (now (state .entry))) (λ q. asked (askOf (now (regions .entry)) q (now (mem .entry))))) r (now (state .exit)) ⌝ }
+    ensures { λ r. ⌜ Called (now (state .entry)) (λ q. asked (askOf (now (regions .entry)) q (now (mem .entry)))) r (now (state .exit)) ⌝ }
     ensures { λ _. ⌜ now (mem .exit) ≡ memOf (loadOf (now (state .entry))) (λ q. askMem (now (regions .entry)) q (now (mem .entry))) (now (mem .entry)) ⌝ }
 {
     lent::state::settle(
@@ -274,7 +273,7 @@ pub extern "C" fn ql_enable_notification(state: &mut [u64], regions: &[u64], mem
 // The question: 1 if the driver must be notified, else 0.
 #[no_mangle]
 pub extern "C" fn ql_needs_notification(state: &mut [u64], regions: &[u64], mem: &[u8]) -> u32
-    ensures { λ r. ⌜ Settled (now (state .entry)) (onLoaded (loadOf (now (state .entry))) (λ q. answered (questionOf (now (regions .entry)) q (now (mem .entry))))) r (now (state .exit)) ⌝ }
+    ensures { λ r. ⌜ Called (now (state .entry)) (λ q. answered (questionOf (now (regions .entry)) q (now (mem .entry)))) r (now (state .exit)) ⌝ }
 {
     lent::state::settle(
         state,
@@ -291,7 +290,7 @@ pub extern "C" fn ql_put_and_ask(
     head: u16,
     len: u32,
 ) -> u32
-    ensures { λ r. ⌜ Settled (now (state .entry)) (onLoaded (loadOf (now (state .entry))) (λ q. putAsked (now (regions .entry)) (now (mem .entry)) head len q)) r (now (state .exit)) ⌝ }
+    ensures { λ r. ⌜ Called (now (state .entry)) (λ q. putAsked (now (regions .entry)) (now (mem .entry)) head len q) r (now (state .exit)) ⌝ }
     ensures { λ _. ⌜ now (mem .exit) ≡ memOf (loadOf (now (state .entry))) (λ q. putMem (now (regions .entry)) q (now (mem .entry)) head len) (now (mem .entry)) ⌝ }
 {
     lent::state::settle(
@@ -315,9 +314,7 @@ pub extern "C" fn ql_chain(state: &[u64], chain: &mut [u64], head: u16) -> u32
 // The next descriptor, the next readable one, the next writable one: 1 with the descriptor, or 0 where there is none.
 #[no_mangle]
 pub extern "C" fn ql_next(chain: &mut [u64], regions: &[u64], mem: &[u8], out: &mut [u64]) -> u32
-    ensures { λ r. ⌜ r ≡ wentCode (onHeld (heldOf (now (chain .entry))) (λ c. wentStep (now (out .entry)) (stepOf (now (regions .entry)) (now (mem .entry)) c)) Stay) ⌝ }
-    ensures { λ _. ⌜ now (chain .exit) ≡ keptChain (now (chain .entry)) (onHeld (heldOf (now (chain .entry))) (λ c. wentStep (now (out .entry)) (stepOf (now (regions .entry)) (now (mem .entry)) c)) Stay) ⌝ }
-    ensures { λ _. ⌜ now (out .exit) ≡ onHeld (heldOf (now (chain .entry))) (λ c. stepArray (now (out .entry)) (stepOf (now (regions .entry)) (now (mem .entry)) c)) (λ k. (now (out .entry))) ⌝ }
+    ensures { λ r. ⌜ WentOn (now (chain .entry)) (onHeld (heldOf (now (chain .entry))) (λ c. wentStep (now (out .entry)) (stepOf (now (regions .entry)) (now (mem .entry)) c)) Stay) (onHeld (heldOf (now (chain .entry))) (λ c. stepArray (now (out .entry)) (stepOf (now (regions .entry)) (now (mem .entry)) c)) (λ k. (now (out .entry)))) r (now (chain .exit)) (now (out .exit)) ⌝ }
 {
     lent::walk::settle_chain(
         chain,
@@ -332,9 +329,7 @@ pub extern "C" fn ql_next_readable(
     mem: &[u8],
     out: &mut [u64],
 ) -> u32
-    ensures { λ r. ⌜ r ≡ wentCode (onHeld (heldOf (now (chain .entry))) (λ c. wentStep (now (out .entry)) (filteredOf false (now (regions .entry)) (now (mem .entry)) c)) Stay) ⌝ }
-    ensures { λ _. ⌜ now (chain .exit) ≡ keptChain (now (chain .entry)) (onHeld (heldOf (now (chain .entry))) (λ c. wentStep (now (out .entry)) (filteredOf false (now (regions .entry)) (now (mem .entry)) c)) Stay) ⌝ }
-    ensures { λ _. ⌜ now (out .exit) ≡ onHeld (heldOf (now (chain .entry))) (λ c. stepArray (now (out .entry)) (filteredOf false (now (regions .entry)) (now (mem .entry)) c)) (λ k. (now (out .entry))) ⌝ }
+    ensures { λ r. ⌜ WentOn (now (chain .entry)) (onHeld (heldOf (now (chain .entry))) (λ c. wentStep (now (out .entry)) (filteredOf false (now (regions .entry)) (now (mem .entry)) c)) Stay) (onHeld (heldOf (now (chain .entry))) (λ c. stepArray (now (out .entry)) (filteredOf false (now (regions .entry)) (now (mem .entry)) c)) (λ k. (now (out .entry)))) r (now (chain .exit)) (now (out .exit)) ⌝ }
 {
     lent::walk::settle_chain(
         chain,
@@ -349,9 +344,7 @@ pub extern "C" fn ql_next_writable(
     mem: &[u8],
     out: &mut [u64],
 ) -> u32
-    ensures { λ r. ⌜ r ≡ wentCode (onHeld (heldOf (now (chain .entry))) (λ c. wentStep (now (out .entry)) (filteredOf true (now (regions .entry)) (now (mem .entry)) c)) Stay) ⌝ }
-    ensures { λ _. ⌜ now (chain .exit) ≡ keptChain (now (chain .entry)) (onHeld (heldOf (now (chain .entry))) (λ c. wentStep (now (out .entry)) (filteredOf true (now (regions .entry)) (now (mem .entry)) c)) Stay) ⌝ }
-    ensures { λ _. ⌜ now (out .exit) ≡ onHeld (heldOf (now (chain .entry))) (λ c. stepArray (now (out .entry)) (filteredOf true (now (regions .entry)) (now (mem .entry)) c)) (λ k. (now (out .entry))) ⌝ }
+    ensures { λ r. ⌜ WentOn (now (chain .entry)) (onHeld (heldOf (now (chain .entry))) (λ c. wentStep (now (out .entry)) (filteredOf true (now (regions .entry)) (now (mem .entry)) c)) Stay) (onHeld (heldOf (now (chain .entry))) (λ c. stepArray (now (out .entry)) (filteredOf true (now (regions .entry)) (now (mem .entry)) c)) (λ k. (now (out .entry)))) r (now (chain .exit)) (now (out .exit)) ⌝ }
 {
     lent::walk::settle_chain(
         chain,
@@ -362,9 +355,7 @@ pub extern "C" fn ql_next_writable(
 // The descriptors that are left of a chain, or as many as the array has room for, and how many they are.
 #[no_mangle]
 pub extern "C" fn ql_walk(chain: &mut [u64], regions: &[u64], mem: &[u8], out: &mut [u64]) -> u32
-    ensures { λ r. ⌜ r ≡ wentCode (onHeld (heldOf (now (chain .entry))) (wentWalk (now (regions .entry)) (now (mem .entry)) (now (out .entry))) Stay) ⌝ }
-    ensures { λ _. ⌜ now (chain .exit) ≡ keptChain (now (chain .entry)) (onHeld (heldOf (now (chain .entry))) (wentWalk (now (regions .entry)) (now (mem .entry)) (now (out .entry))) Stay) ⌝ }
-    ensures { λ _. ⌜ now (out .exit) ≡ onHeld (heldOf (now (chain .entry))) (walkArray (now (regions .entry)) (now (mem .entry)) (now (out .entry))) (λ k. (now (out .entry))) ⌝ }
+    ensures { λ r. ⌜ WentOn (now (chain .entry)) (onHeld (heldOf (now (chain .entry))) (wentWalk (now (regions .entry)) (now (mem .entry)) (now (out .entry))) Stay) (onHeld (heldOf (now (chain .entry))) (walkArray (now (regions .entry)) (now (mem .entry)) (now (out .entry))) (λ k. (now (out .entry)))) r (now (chain .exit)) (now (out .exit)) ⌝ }
 {
     lent::walk::settle_chain(
         chain,
@@ -382,10 +373,7 @@ pub extern "C" fn ql_take(
     last_index: u16,
     out: &mut [u64],
 ) -> u32
-    ensures { λ r. ⌜ r ≡ wentCode (onTaking (takeOf (now (regions .entry)) (now (mem .entry)) «last_index» (length (now (chain .entry))) (length (now (out .entry))) (loadOf (now (state .entry)))) (wentWalk (now (regions .entry)) (now (mem .entry)) (now (out .entry))) Stay) ⌝ }
-    ensures { λ _. ⌜ now (state .exit) ≡ kept (now (state .entry)) (takenReply (takeOf (now (regions .entry)) (now (mem .entry)) «last_index» (length (now (chain .entry))) (length (now (out .entry))) (loadOf (now (state .entry))))) ⌝ }
-    ensures { λ _. ⌜ now (chain .exit) ≡ keptChain (now (chain .entry)) (onTaking (takeOf (now (regions .entry)) (now (mem .entry)) «last_index» (length (now (chain .entry))) (length (now (out .entry))) (loadOf (now (state .entry)))) (wentWalk (now (regions .entry)) (now (mem .entry)) (now (out .entry))) Stay) ⌝ }
-    ensures { λ _. ⌜ now (out .exit) ≡ onTaking (takeOf (now (regions .entry)) (now (mem .entry)) «last_index» (length (now (chain .entry))) (length (now (out .entry))) (loadOf (now (state .entry)))) (walkArray (now (regions .entry)) (now (mem .entry)) (now (out .entry))) (λ k. (now (out .entry))) ⌝ }
+    ensures { λ r. ⌜ TookAll (now (regions .entry)) (now (mem .entry)) «last_index» (now (state .entry)) (now (chain .entry)) (now (out .entry)) r (now (state .exit)) (now (chain .exit)) (now (out .exit)) ⌝ }
 {
     let x = lent::walk::take(
         lent::state::load(state),

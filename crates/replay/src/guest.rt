@@ -4,8 +4,8 @@ use crate::reading;
 use crate::state::Answer;
 use crate::state::Done;
 use crate::state::State;
+use adding::Adding;
 use desc::Descriptor;
-use regions::Adding;
 use script::commands::Command;
 ghost use Prim.Native.Nat.{_≤_};
 ghost use lib.ListN.{length};
@@ -66,7 +66,7 @@ fn region(numbers: &[u64], size: usize, st: State, table: &mut [u64]) -> Done {
     if st.plain {
         return added(st, first_region(table, size, base, len, offset));
     }
-    added(st, regions::add_region(table, size, base, len, offset))
+    added(st, adding::add_region(table, size, base, len, offset))
 }
 
 fn added(st: State, answer: Adding) -> Done {
@@ -79,7 +79,7 @@ fn added(st: State, answer: Adding) -> Done {
 // The first region is held against an empty table; the one that `memory` made goes only when it is taken.
 fn first_region(table: &mut [u64], size: usize, base: u64, len: u64, offset: u64) -> Adding {
     let mut empty = [0u64; 24];
-    let answer = regions::add_region(&mut empty, size, base, len, offset);
+    let answer = adding::add_region(&mut empty, size, base, len, offset);
     match answer {
         Adding::Added => {
             copy_table(&empty, table);

@@ -19,7 +19,7 @@ same-length-2 : tie.Need-same-length-2
 same-length-2 c = search needs
 
 returns : tie.Need-returns
-returns c = (rw (← c .before .before .before .before .before .before .before .load-chain .ensures, ← c .before .before .before .before .before .next .ensures .0) (c .before .before .settle-chain .ensures .0), (rw (← c .before .before .before .before .before .before .before .load-chain .ensures, ← c .before .before .before .before .before .next .ensures .0) (c .before .before .settle-chain .ensures .1), rw (← c .before .before .before .before .before .before .before .load-chain .ensures) (c .before .before .before .before .before .next .ensures .1)))
+returns c = record { answer = rw (← c .before .before .before .before .before .before .before .load-chain .ensures, ← c .before .before .before .before .before .next .ensures .0) (c .before .before .settle-chain .ensures .0); chain = rw (← c .before .before .before .before .before .before .before .load-chain .ensures, ← c .before .before .before .before .before .next .ensures .0) (c .before .before .settle-chain .ensures .1); filled = rw (← c .before .before .before .before .before .before .before .load-chain .ensures) (c .before .before .before .before .before .next .ensures .1) }
 
 pub ql-next-spec : {M : Type 1} → statement M
 ql-next-spec =

@@ -31,7 +31,7 @@ same-length-3 : tie.Need-same-length-3
 same-length-3 c = search needs
 
 returns : tie.Need-returns
-returns c = (rw (← c .before .before .before .before .before .before .before .before .before .before .before .before .before .before .load .ensures, ← c .before .before .before .before .before .before .before .before .before .before .before .before .before .take .ensures, ← c .before .before .before .before .before .walk-taken .ensures .0) (c .before .before .settle-chain .ensures .0), (rw (← c .before .before .before .before .before .before .before .before .before .before .before .before .before .before .load .ensures, ← c .before .before .before .before .before .before .before .before .before .before .before .before .before .take .ensures, ← c .before .before .before .before .before .before .before .before .before .before .before .reply .ensures) (c .before .before .before .before .before .before .before .before .before .before .settle .ensures .state), (rw (← c .before .before .before .before .before .before .before .before .before .before .before .before .before .before .load .ensures, ← c .before .before .before .before .before .before .before .before .before .before .before .before .before .take .ensures, ← c .before .before .before .before .before .walk-taken .ensures .0) (c .before .before .settle-chain .ensures .1), rw (← c .before .before .before .before .before .before .before .before .before .before .before .before .before .before .load .ensures, ← c .before .before .before .before .before .before .before .before .before .before .before .before .before .take .ensures) (c .before .before .before .before .before .walk-taken .ensures .1))))
+returns c = record { went = record { answer = rw (← c .before .before .before .before .before .before .before .before .before .before .before .before .before .before .load .ensures, ← c .before .before .before .before .before .before .before .before .before .before .before .before .before .take .ensures, ← c .before .before .before .before .before .walk-taken .ensures .0) (c .before .before .settle-chain .ensures .0); chain = rw (← c .before .before .before .before .before .before .before .before .before .before .before .before .before .before .load .ensures, ← c .before .before .before .before .before .before .before .before .before .before .before .before .before .take .ensures, ← c .before .before .before .before .before .walk-taken .ensures .0) (c .before .before .settle-chain .ensures .1); filled = rw (← c .before .before .before .before .before .before .before .before .before .before .before .before .before .before .load .ensures, ← c .before .before .before .before .before .before .before .before .before .before .before .before .before .take .ensures) (c .before .before .before .before .before .walk-taken .ensures .1) }; state = rw (← c .before .before .before .before .before .before .before .before .before .before .before .before .before .before .load .ensures, ← c .before .before .before .before .before .before .before .before .before .before .before .before .before .take .ensures, ← c .before .before .before .before .before .before .before .before .before .before .before .reply .ensures) (c .before .before .before .before .before .before .before .before .before .before .settle .ensures .state) }
 
 pub ql-take-spec : {M : Type 1} → statement M
 ql-take-spec =
