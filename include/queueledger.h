@@ -206,7 +206,7 @@ uint32_t ql_set_next_used(uint64_t *state, size_t state_len, uint16_t next_used)
  * Answers 1 if the queue is ready and its three areas are whole in guest memory, else 0. No other call asks this: each
  * tests the fields that it touches.
  */
-uint32_t ql_is_valid(uint64_t *state, size_t state_len, const uint64_t *regions, size_t regions_len,
+uint32_t ql_is_valid(const uint64_t *state, size_t state_len, const uint64_t *regions, size_t regions_len,
     const uint8_t *mem, size_t mem_len);
 
 /*
@@ -217,7 +217,7 @@ uint32_t ql_is_valid(uint64_t *state, size_t state_len, const uint64_t *regions,
  * Begin a pass. Answers the available ring's idx, where the pass ends: what ql_next_head and ql_take want as last_index.
  * Or QL_QUEUE_NOT_READY, QL_GUEST_MEMORY, QL_INVALID_AVAIL_RING_INDEX.
  */
-uint32_t ql_iter(uint64_t *state, size_t state_len, const uint64_t *regions, size_t regions_len,
+uint32_t ql_iter(const uint64_t *state, size_t state_len, const uint64_t *regions, size_t regions_len,
     const uint8_t *mem, size_t mem_len);
 
 /*
@@ -244,7 +244,7 @@ uint32_t ql_take(uint64_t *state, size_t state_len, uint64_t *chain, size_t chai
 uint32_t ql_go_to_previous_position(uint64_t *state, size_t state_len);
 
 /* Answers the available ring's idx as it stands in memory, or QL_GUEST_MEMORY. */
-uint32_t ql_avail_idx(uint64_t *state, size_t state_len, const uint64_t *regions, size_t regions_len,
+uint32_t ql_avail_idx(const uint64_t *state, size_t state_len, const uint64_t *regions, size_t regions_len,
     const uint8_t *mem, size_t mem_len);
 
 /*
@@ -295,7 +295,7 @@ uint32_t ql_put_and_ask(uint64_t *state, size_t state_len, const uint64_t *regio
     uint8_t *mem, size_t mem_len, uint16_t head, uint32_t len);
 
 /* Answers the used ring's idx as it stands in memory, or QL_GUEST_MEMORY. */
-uint32_t ql_used_idx(uint64_t *state, size_t state_len, const uint64_t *regions, size_t regions_len,
+uint32_t ql_used_idx(const uint64_t *state, size_t state_len, const uint64_t *regions, size_t regions_len,
     const uint8_t *mem, size_t mem_len);
 
 /*

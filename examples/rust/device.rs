@@ -114,7 +114,7 @@ impl Device {
 
     /// One pass over the available ring. Answers false where the guest has broken the queue, and the device has to give it up.
     fn pass(&mut self) -> bool {
-        let last = ql::iter(&mut self.state, &self.regions, &self.mem);
+        let last = ql::iter(&self.state, &self.regions, &self.mem);
         if ql::refused(last) {
             return false;
         }
@@ -171,7 +171,7 @@ fn refusals(d: &mut Device) {
     refusal(d, "begin, an empty memory", ql::GUEST_MEMORY, "QL_GUEST_MEMORY", |d| {
         let (state, regions) = (&mut d.state, &d.regions);
         // SAFETY: the pointers are those of slices, and the third slice is empty.
-        unsafe { ql::raw::ql_iter(state.as_mut_ptr(), state.len(), regions.as_ptr(), regions.len(), null(), 0) }
+        unsafe { ql::raw::ql_iter(state.as_ptr(), state.len(), regions.as_ptr(), regions.len(), null(), 0) }
     });
     refusal(d, "put, an empty memory", ql::GUEST_MEMORY, "QL_GUEST_MEMORY", |d| {
         ql::put_and_ask(&mut d.state, &d.regions, &mut [], 0, 1)
@@ -179,7 +179,7 @@ fn refusals(d: &mut Device) {
     refusal(d, "begin, an empty table", ql::GUEST_MEMORY, "QL_GUEST_MEMORY", |d| {
         let (state, mem) = (&mut d.state, &d.mem);
         // SAFETY: the pointers are those of slices, and the second slice is empty.
-        unsafe { ql::raw::ql_iter(state.as_mut_ptr(), state.len(), null(), 0, mem.as_ptr(), mem.len()) }
+        unsafe { ql::raw::ql_iter(state.as_ptr(), state.len(), null(), 0, mem.as_ptr(), mem.len()) }
     });
     refusal(d, "put, an empty table", ql::GUEST_MEMORY, "QL_GUEST_MEMORY", |d| {
         ql::put_and_ask(&mut d.state, &[], &mut d.mem, 0, 1)

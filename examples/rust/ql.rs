@@ -50,10 +50,10 @@ pub mod raw {
         pub fn ql_set_ready(state: *mut u64, state_len: usize, ready: u32) -> u32;
         pub fn ql_set_event_idx(state: *mut u64, state_len: usize, enabled: u32) -> u32;
         pub fn ql_is_valid(
-            state: *mut u64, state_len: usize, regions: *const u64, regions_len: usize, mem: *const u8, mem_len: usize,
+            state: *const u64, state_len: usize, regions: *const u64, regions_len: usize, mem: *const u8, mem_len: usize,
         ) -> u32;
         pub fn ql_iter(
-            state: *mut u64, state_len: usize, regions: *const u64, regions_len: usize, mem: *const u8, mem_len: usize,
+            state: *const u64, state_len: usize, regions: *const u64, regions_len: usize, mem: *const u8, mem_len: usize,
         ) -> u32;
         pub fn ql_take(
             state: *mut u64, state_len: usize, chain: *mut u64, chain_len: usize, regions: *const u64, regions_len: usize,
@@ -118,12 +118,12 @@ pub fn set_event_idx(state: &mut [u64], enabled: bool) -> u32 {
     unsafe { ql_set_event_idx(state.as_mut_ptr(), state.len(), u32::from(enabled)) }
 }
 
-pub fn is_valid(state: &mut [u64], regions: &[u64], mem: &[u8]) -> u32 {
-    unsafe { ql_is_valid(state.as_mut_ptr(), state.len(), regions.as_ptr(), regions.len(), mem.as_ptr(), mem.len()) }
+pub fn is_valid(state: &[u64], regions: &[u64], mem: &[u8]) -> u32 {
+    unsafe { ql_is_valid(state.as_ptr(), state.len(), regions.as_ptr(), regions.len(), mem.as_ptr(), mem.len()) }
 }
 
-pub fn iter(state: &mut [u64], regions: &[u64], mem: &[u8]) -> u32 {
-    unsafe { ql_iter(state.as_mut_ptr(), state.len(), regions.as_ptr(), regions.len(), mem.as_ptr(), mem.len()) }
+pub fn iter(state: &[u64], regions: &[u64], mem: &[u8]) -> u32 {
+    unsafe { ql_iter(state.as_ptr(), state.len(), regions.as_ptr(), regions.len(), mem.as_ptr(), mem.len()) }
 }
 
 pub fn take(state: &mut [u64], chain: &mut [u64], regions: &[u64], mem: &[u8], last_index: u16, out: &mut [u64]) -> u32 {

@@ -3,7 +3,8 @@
 --
 --   0 to 65,535     done (0), no (0), yes (1), a head, an idx, or how many descriptors there are
 --   65,536          there is none
---   above           a refusal: what the caller lent is as it was
+--   above           a refusal: what the caller lent is as it was, but for a put that stands where its question can't be answered
+--                   (65,548), and for asking, which keeps a write that it made before the read that failed
 use Prim.Native.Nat.{ℕ, _+_, _≤_, _<_, max}
 use native.Mathlib.Omega.{arith}
 use mathlib.Core.Path.{_≡_, refl, sym, ap, _∙_}

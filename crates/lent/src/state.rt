@@ -6,7 +6,7 @@ ghost use mathlib.Core.Bool.{true};
 ghost use Prim.Native.Nat.{_≤_, max};
 ghost use lib.ListN.{length};
 ghost use lib.Seq.{sets};
-ghost use Rattle.lent.specs.State.{bit, queueIn, wordsOf, fits, loadOf, Settled};
+ghost use Rattle.lent.specs.State.{bit, queueIn, wordsOf, fits, loadOf, codeOf, Settled};
 
 pub const STATE_WORDS: usize = 10;
 
@@ -99,7 +99,17 @@ fn keep(state: &mut [u64], q: Queue)
     state[9] = q.used_ring;
 }
 
-// The end of every call: what it answers, and the state after it.
+// The end of a call that leaves the queue as it is.
+pub fn answer(x: Reply) -> u32
+    ensures { λ r. ⌜ r ≡ codeOf x ⌝ }
+{
+    match x {
+        Reply::Now(code, _) => code,
+        Reply::Same(code) => code,
+    }
+}
+
+// The end of every other call: what it answers, and the state after it.
 pub fn settle(state: &mut [u64], x: Reply) -> u32
     ensures { λ r. ⌜ Settled (now (state .entry)) x r (now (state .exit)) ⌝ }
 {

@@ -28,6 +28,7 @@ use mathlib.Core.Logic.{_⊎_, inl, inr}
 use mathlib.Core.List.{List, [], _∷_, _++_}
 use lib.ListN.{length, getD}
 use lib.Seq.{sets, take-all}
+use lib.Dec.{ltb}
 use Rattle.wire.specs.Number.{number, bytes}
 use Rattle.wire.specs.Part.{Apart, part, part-part, part-sets, sets-append}
 use Rattle.regions.specs.Table.{pick, Table, Maps, InMemory, Good, good-one, Single, single-one, maps-room}
@@ -71,6 +72,10 @@ pub record WroteBoth (t : Table) (m : List ℕ) (a : ℕ) (bs : List ℕ) (b : �
 -- a read of 2 bytes, as one number
 unfoldable pub read2Of : Table → List ℕ → ℕ → Got2
 read2Of t m a = pick (readable t (length m) a 2) (Value (number (bytesAt t m a 2))) Fault2
+
+-- the answer of such a read that one number stands for
+abbrev pub decoded : ℕ → Got2
+decoded x = pick (ltb x 65536) (Value x) Fault2
 
 -- numbers of 8, 4, 2 and 2 bytes side by side
 abbrev pub fieldsOf : List ℕ → Got16

@@ -18,7 +18,7 @@ ghost use Rattle.wire.specs.Part.{part};
 ghost use Rattle.regions.specs.Table.{spot};
 ghost use Rattle.regions.specs.Spots.{Seated, covered, spots};
 ghost use Rattle.memory.specs.Cells.{cell, fetch, store1, store};
-ghost use Rattle.memory.specs.Access.{readable, writable, Wrote, WroteBoth, read2Of, read16Of, fieldsOf, pairBytes, fieldBytes};
+ghost use Rattle.memory.specs.Access.{readable, writable, Wrote, WroteBoth, decoded, read2Of, read16Of, fieldsOf, pairBytes, fieldBytes};
 
 // What a read of 2 bytes finds.
 pub enum Got2 {
@@ -134,7 +134,7 @@ fn read2_across(regions: &[u64], mem: &[u8], addr: u64, off: u32) -> Got2
     Got2::Value(read2_into(regions, mem, addr + off as u64, &mut out))
 }
 
-fn read2_far(regions: &[u64], mem: &[u8], addr: u64, off: u32) -> Got2
+fn read2_any(regions: &[u64], mem: &[u8], addr: u64, off: u32) -> Got2
     ensures { λ r. ⌜ r ≡ read2Of (now (regions .entry)) (now (mem .entry)) (addr + off) ⌝ }
 {
     match regions::locate(regions, mem.len(), addr, off, 2) {
@@ -143,16 +143,43 @@ fn read2_far(regions: &[u64], mem: &[u8], addr: u64, off: u32) -> Got2
     }
 }
 
+// An answer as one number, which stays in a register. An enum that comes back from a call goes through memory, and then so does the one
+// of the fast way: stored in two parts and loaded as one, which processors are slow at.
+fn code_of(x: Got2) -> u32
+    ensures { λ r. ⌜ decoded r ≡ x ⌝ }
+{
+    match x {
+        Got2::Value(n) => n as u32,
+        Got2::Fault2 => 65536,
+    }
+}
+
+fn of_code(x: u32) -> Got2
+    ensures { λ r. ⌜ r ≡ decoded x ⌝ }
+{
+    if x < 65536 {
+        Got2::Value(x as u16)
+    } else {
+        Got2::Fault2
+    }
+}
+
+fn read2_far(regions: &[u64], mem: &[u8], addr: u64, off: u32) -> u32
+    ensures { λ r. ⌜ decoded r ≡ read2Of (now (regions .entry)) (now (mem .entry)) (addr + off) ⌝ }
+{
+    code_of(read2_any(regions, mem, addr, off))
+}
+
 pub fn read2(regions: &[u64], mem: &[u8], addr: u64, off: u32) -> Got2
     ensures { λ r. ⌜ r ≡ read2Of (now (regions .entry)) (now (mem .entry)) (addr + off) ⌝ }
 {
     if regions.len() < 3 {
-        return read2_far(regions, mem, addr, off);
+        return of_code(read2_far(regions, mem, addr, off));
     }
     match regions::seat(regions[0], regions[1], regions[2], mem.len(), addr, off, 2) {
         Side::All(i) => Got2::Value(wire::get2(mem, i)),
-        Side::Away => read2_far(regions, mem, addr, off),
-        Side::Split => read2_far(regions, mem, addr, off),
+        Side::Away => of_code(read2_far(regions, mem, addr, off)),
+        Side::Split => of_code(read2_far(regions, mem, addr, off)),
     }
 }
 

@@ -11,7 +11,7 @@ ghost use Rattle.queue.specs.Config.{newOf, resetOf, setSizeOf, setDescTableOf,
 ghost use Rattle.queue.specs.Avail.{idxRead, beginOf, headOf, popOf, backOf};
 ghost use Rattle.queue.specs.Used.{idxAddr, putOf, putMem};
 ghost use Rattle.queue.specs.Notify.{stopOf, stopMem, askOf, askMem, questionOf};
-ghost use Rattle.lent.specs.State.{bit, isSet, loadOf, Settled, Called};
+ghost use Rattle.lent.specs.State.{bit, isSet, loadOf, onLoaded, codeOf, Settled, Called};
 ghost use Rattle.lent.specs.Answers.{madeOn, configured, got, begun, taken, placed, stopped, asked, answered, halfOf, putAsked, memOf, addingCode};
 ghost use Rattle.chain.specs.Steps.{stepOf, filteredOf};
 ghost use Rattle.lent.specs.Walk.{heldOf, wentCode, keptChain, onHeld, wentWalk, walkArray, wentStep, stepArray, startOf, WentOn, TookAll};
@@ -160,45 +160,33 @@ pub extern "C" fn ql_go_to_previous_position(state: &mut [u64]) -> u32
 
 // 1 if the queue is ready and its three areas are whole in memory, else 0.
 #[no_mangle]
-pub extern "C" fn ql_is_valid(state: &mut [u64], regions: &[u64], mem: &[u8]) -> u32
-    ensures { λ r. ⌜ Called (now (state .entry)) (λ q. Same (bit (validOf (now (regions .entry)) (length (now (mem .entry))) q))) r (now (state .exit)) ⌝ }
+pub extern "C" fn ql_is_valid(state: &[u64], regions: &[u64], mem: &[u8]) -> u32
+    ensures { λ r. ⌜ r ≡ codeOf (onLoaded (loadOf (now (state .entry))) (λ q. Same (bit (validOf (now (regions .entry)) (length (now (mem .entry))) q)))) ⌝ }
 {
-    lent::state::settle(
-        state,
-        lent::calls::is_valid(lent::state::load(state), regions, mem),
-    )
+    lent::state::answer(lent::calls::is_valid(lent::state::load(state), regions, mem))
 }
 
 // The idx of the available ring, and of the used ring, as it stands in memory.
 #[no_mangle]
-pub extern "C" fn ql_avail_idx(state: &mut [u64], regions: &[u64], mem: &[u8]) -> u32
-    ensures { λ r. ⌜ Called (now (state .entry)) (λ q. got (idxRead (now (regions .entry)) q (now (mem .entry)))) r (now (state .exit)) ⌝ }
+pub extern "C" fn ql_avail_idx(state: &[u64], regions: &[u64], mem: &[u8]) -> u32
+    ensures { λ r. ⌜ r ≡ codeOf (onLoaded (loadOf (now (state .entry))) (λ q. got (idxRead (now (regions .entry)) q (now (mem .entry))))) ⌝ }
 {
-    lent::state::settle(
-        state,
-        lent::calls::avail_idx(lent::state::load(state), regions, mem),
-    )
+    lent::state::answer(lent::calls::avail_idx(lent::state::load(state), regions, mem))
 }
 
 #[no_mangle]
-pub extern "C" fn ql_used_idx(state: &mut [u64], regions: &[u64], mem: &[u8]) -> u32
-    ensures { λ r. ⌜ Called (now (state .entry)) (λ q. got (read2Of (now (regions .entry)) (now (mem .entry)) (idxAddr q))) r (now (state .exit)) ⌝ }
+pub extern "C" fn ql_used_idx(state: &[u64], regions: &[u64], mem: &[u8]) -> u32
+    ensures { λ r. ⌜ r ≡ codeOf (onLoaded (loadOf (now (state .entry))) (λ q. got (read2Of (now (regions .entry)) (now (mem .entry)) (idxAddr q)))) ⌝ }
 {
-    lent::state::settle(
-        state,
-        lent::calls::used_idx(lent::state::load(state), regions, mem),
-    )
+    lent::state::answer(lent::calls::used_idx(lent::state::load(state), regions, mem))
 }
 
 // Begin: the idx that is the end of the pass, for ql_next_head and ql_take.
 #[no_mangle]
-pub extern "C" fn ql_iter(state: &mut [u64], regions: &[u64], mem: &[u8]) -> u32
-    ensures { λ r. ⌜ Called (now (state .entry)) (λ q. begun (beginOf (now (regions .entry)) q (now (mem .entry)))) r (now (state .exit)) ⌝ }
+pub extern "C" fn ql_iter(state: &[u64], regions: &[u64], mem: &[u8]) -> u32
+    ensures { λ r. ⌜ r ≡ codeOf (onLoaded (loadOf (now (state .entry))) (λ q. begun (beginOf (now (regions .entry)) q (now (mem .entry))))) ⌝ }
 {
-    lent::state::settle(
-        state,
-        lent::calls::iter(lent::state::load(state), regions, mem),
-    )
+    lent::state::answer(lent::calls::iter(lent::state::load(state), regions, mem))
 }
 
 // Next head: the next one of the pass that ends at last_index.

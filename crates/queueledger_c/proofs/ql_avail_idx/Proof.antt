@@ -9,15 +9,11 @@ load-requires c κs = search needs
 avail-idx-requires : tie.Need-avail-idx-requires
 avail-idx-requires c κs = search needs
 
-settle-requires : tie.Need-settle-requires
-settle-requires c κs = search needs
-
-same-length : tie.Need-same-length
-same-length c = search needs
+answer-requires : tie.Need-answer-requires
+answer-requires c κs = search needs
 
 returns : tie.Need-returns
-returns c = rw (← c .before .before .before .before .load .ensures, ← c .before .before .before .avail-idx .ensures) (c .before .before .settle .ensures)
+returns c = rw (← c .before .before .load .ensures, ← c .before .avail-idx .ensures) (c .answer .ensures)
 
 pub ql-avail-idx-spec : {M : Type 1} → statement M
-ql-avail-idx-spec =
-    tie.close (tie.spec load-requires avail-idx-requires settle-requires same-length returns)
+ql-avail-idx-spec = tie.close (tie.spec load-requires avail-idx-requires answer-requires returns)

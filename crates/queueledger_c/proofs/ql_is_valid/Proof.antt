@@ -9,15 +9,11 @@ load-requires c κs = search needs
 is-valid-requires : tie.Need-is-valid-requires
 is-valid-requires c κs = search needs
 
-settle-requires : tie.Need-settle-requires
-settle-requires c κs = search needs
-
-same-length : tie.Need-same-length
-same-length c = search needs
+answer-requires : tie.Need-answer-requires
+answer-requires c κs = search needs
 
 returns : tie.Need-returns
-returns c = rw (← c .before .before .before .before .load .ensures, ← c .before .before .before .is-valid .ensures) (c .before .before .settle .ensures)
+returns c = rw (← c .before .before .load .ensures, ← c .before .is-valid .ensures) (c .answer .ensures)
 
 pub ql-is-valid-spec : {M : Type 1} → statement M
-ql-is-valid-spec =
-    tie.close (tie.spec load-requires is-valid-requires settle-requires same-length returns)
+ql-is-valid-spec = tie.close (tie.spec load-requires is-valid-requires answer-requires returns)

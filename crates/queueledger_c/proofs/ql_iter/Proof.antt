@@ -9,14 +9,11 @@ load-requires c κs = search needs
 iter-requires : tie.Need-iter-requires
 iter-requires c κs = search needs
 
-settle-requires : tie.Need-settle-requires
-settle-requires c κs = search needs
-
-same-length : tie.Need-same-length
-same-length c = search needs
+answer-requires : tie.Need-answer-requires
+answer-requires c κs = search needs
 
 returns : tie.Need-returns
-returns c = rw (← c .before .before .before .before .load .ensures, ← c .before .before .before .iter .ensures) (c .before .before .settle .ensures)
+returns c = rw (← c .before .before .load .ensures, ← c .before .iter .ensures) (c .answer .ensures)
 
 pub ql-iter-spec : {M : Type 1} → statement M
-ql-iter-spec = tie.close (tie.spec load-requires iter-requires settle-requires same-length returns)
+ql-iter-spec = tie.close (tie.spec load-requires iter-requires answer-requires returns)
