@@ -82,7 +82,7 @@ abbrev pub answered : Answered → Reply
 answered (Needed b q) = Now (bit b) q
 answered (NotAnswered e) = Same (errorCode e)
 
--- half of an address, by bit 0 or 1 of a number
+-- half of an address, if it is given
 abbrev pub halfOf : Bool → ℕ → Half
 halfOf given x = pick given (Given x) Kept
 
