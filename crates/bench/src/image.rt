@@ -39,7 +39,7 @@ fn flags(place: u16) -> u16 {
 
 fn lay_one(n: Numbers, table: &[u64], mem: &mut [u8], i: u16, next: u16, head: u16) {
     desc::write_descriptor(table, mem, n.desc, i, descriptor(i, next));
-    memory::write2(table, mem, n.avail, 4 + 2 * (i as u32), head);
+    writing::write2(table, mem, n.avail, 4 + 2 * (i as u32), head);
 }
 
 // All descriptors, and all entries of the available ring: the heads in turn.

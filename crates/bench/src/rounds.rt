@@ -58,9 +58,9 @@ pub fn configure(n: Numbers) -> Start {
 // The driver: used_event, then idx, which it answers.
 fn drive(avail: u64, size: u16, idx: u16, table: &[u64], mem: &mut [u8]) -> u16 {
     let event = std::num::wrapping_add_u16(idx, 31);
-    memory::write2(table, mem, avail, 4 + 2 * (size as u32), event);
+    writing::write2(table, mem, avail, 4 + 2 * (size as u32), event);
     let next = std::num::wrapping_add_u16(idx, 64);
-    memory::write2(table, mem, avail, 2, next);
+    writing::write2(table, mem, avail, 2, next);
     next
 }
 

@@ -139,7 +139,7 @@ pub fn write_descriptor(
 ) -> bool
     ensures { λ r. ⌜ Wrote (now (regions .entry)) (now (mem .entry)) (descAddr table index) (descBytes d) r (now (mem .exit)) ⌝ }
 {
-    memory::write16(
+    writing::write16(
         regions,
         mem,
         table,
@@ -164,5 +164,5 @@ pub fn publish_used(
 ) -> bool
     ensures { λ r. ⌜ WroteBoth (now (regions .entry)) (now (mem .entry)) (ring + off) (usedBytes id len) (usedIdxAddr ring) (bytes 2 idx) r (now (mem .exit)) ⌝ }
 {
-    memory::write8_then2(regions, mem, ring, off, id, len, 2, idx)
+    writing::write8_then2(regions, mem, ring, off, id, len, 2, idx)
 }

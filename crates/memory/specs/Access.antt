@@ -97,15 +97,6 @@ pub fields-part : (l : List ℕ) (i : ℕ) → i + 16 ≤ length l
 fields-part l i h =
     cc (part-part l i 16 0 8 (omega arith) h, add-zero i, part-part l i 16 8 4 (omega arith) h, part-part l i 16 12 2 (omega arith) h, part-part l i 16 14 2 (omega arith) h)
 
-pub sets-fields : (l : List ℕ) (i a b c d : ℕ) → sets (sets (sets (sets l i (bytes 8 a)) (i + 8) (bytes 4 b)) (i + 12) (bytes 2 c)) (i + 14) (bytes 2 d) ≡ sets l i (fieldBytes a b c d)
-sets-fields l i a b c d =
-    let x : i + 12 ≡ i + 8 + 4 = omega arith in
-    let y : i + 14 ≡ i + 8 + 4 + 2 = omega arith in
-    rw (x, y)
-    (sym (sets-append l i (bytes 8 a) (bytes 4 b ++ bytes 2 c ++ bytes 2 d)
-    ∙ sets-append (sets l i (bytes 8 a)) (i + 8) (bytes 4 b) (bytes 2 c ++ bytes 2 d)
-    ∙ sets-append (sets (sets l i (bytes 8 a)) (i + 8) (bytes 4 b)) (i + 8 + 4) (bytes 2 c) (bytes 2 d)))
-
 -- ---- readable, writable
 module _ (t : Table) (size a n : ℕ) where
   pub readable-is : readable t size a n ≡ covered t size a n
@@ -216,9 +207,6 @@ module _ (t : Table) (m : List ℕ) (a : ℕ) where
   pub read16-run : (i : ℕ) → RunAt t (length m) a 16 i → read16Of t m a ≡ fieldsOf (part m i 16)
   read16-run i e = rw (read16-is, readable-run 16 i e, bytes-run 16 i e)
 
-  pub wrote-run : (bs : List ℕ) (i : ℕ) (m′ : List ℕ) → RunAt t (length m) a (length bs) i → m′ ≡ sets m i bs → Wrote t m a bs true m′
-  wrote-run bs i m′ e f = record { ok = sym (writable-run (length bs) i e); mem = f ∙ sym (after-run bs i e) }
-
 -- ---- the slow way
 module _ (t : Table) (m : List ℕ) (a : ℕ) where
   pub read2-slow : (r : Bool) → r ≡ readable t (length m) a 2 → r ≡ true → Value (number (fetch m (spots t (length m) a 2))) ≡ read2Of t m a
@@ -232,46 +220,6 @@ module _ (t : Table) (m : List ℕ) (a : ℕ) where
 
   pub read16-refused : (r : Bool) → r ≡ readable t (length m) a 16 → r ≡ false → Fault16 ≡ read16Of t m a
   read16-refused r e f = rw (read16-is, sym e ∙ f)
-
-  pub wrote-slow : (r : Bool) (bs m′ : List ℕ) → r ≡ writable t (length m) a (length bs) → r ≡ true → m′ ≡ store m (spots t (length m) a (length bs)) bs → Wrote t m a bs true m′
-  wrote-slow r bs m′ e f g = record { ok = sym f ∙ e; mem = g ∙ sym (after-done t m a bs (sym e ∙ f)) }
-
-  pub wrote-refused : (r : Bool) (bs : List ℕ) → r ≡ writable t (length m) a (length bs) → r ≡ false → Wrote t m a bs false m
-  wrote-refused r bs e f = record { ok = sym f ∙ e; mem = sym (after-refused t m a bs (sym e ∙ f)) }
-
--- ---- two writes, both or neither
-module _ (t : Table) (m : List ℕ) (a : ℕ) (bs : List ℕ) (b : ℕ) (cs : List ℕ) where
-  pub both-run : (i j : ℕ) (m₁ m₂ : List ℕ) → RunAt t (length m) a (length bs) i → RunAt t (length m) b (length cs) j
-      → m₁ ≡ sets m i bs → m₂ ≡ sets m₁ j cs → WroteBoth t m a bs b cs true m₂
-  both-run i j m₁ m₂ e f u v =
-      record {
-        ok = sym (rw (writable-run t m a (length bs) i e) (writable-run t m b (length cs) j f));
-        mem = v ∙ ap (λ (l : List ℕ). sets l j cs) (u ∙ sym (after-run t m a bs i e)) ∙ sym (after-run t (after t m a bs) b cs j (rw after-length f));
-      }
-
-  module _ (c : Bool) (e : c ≡ writable t (length m) b (length cs)) where
-    no-second : (x y : Bool) → y ≡ false → pick x y false ≡ false
-    no-second true y f = f
-    no-second false y f = refl
-
-    pub both-no-second : c ≡ false → WroteBoth t m a bs b cs false m
-    both-no-second f = record { ok = sym (no-second (writable t (length m) a (length bs)) (writable t (length m) b (length cs)) (sym e ∙ f)); mem = refl }
-
-    module _ (x : c ≡ true) (d : Bool) (m₁ : List ℕ) (w : Wrote t m a bs d m₁) where
-      pub both-no-first : d ≡ false → WroteBoth t m a bs b cs false m₁
-      both-no-first f =
-          let g : writable t (length m) a (length bs) ≡ false = sym (w .ok) ∙ f in
-          record { ok = sym (rw g); mem = w .mem ∙ after-refused t m a bs g }
-
-      pub both-done : d ≡ true → (r : Bool) (m₂ : List ℕ) → Wrote t m₁ b cs r m₂ → WroteBoth t m a bs b cs r m₂
-      both-done f r m₂ v =
-          let g : writable t (length m) a (length bs) ≡ true = sym (w .ok) ∙ f in
-          let l : length m₁ ≡ length m = ap length (w .mem) ∙ after-length t m a bs in
-          let k : r ≡ true = v .ok ∙ ap (λ (z : ℕ). writable t z b (length cs)) l ∙ sym e ∙ x in
-          record {
-            ok = rw g (k ∙ sym x ∙ e);
-            mem = rw k (v .mem ∙ ap (λ (z : List ℕ). after t z b cs) (w .mem));
-          }
 
 -- ---- places of the table
 -- a place that the table maps from no address is none of them

@@ -59,12 +59,6 @@ pub fetch-snoc : (m : List ℕ) (ps : List Place) (p : Place) → fetch m (ps ++
 fetch-snoc m [] p = refl
 fetch-snoc m (q ∷ ps) p = ap (λ (l : List ℕ). cell m q ∷ l) (fetch-snoc m ps p)
 
-pub store-snoc : (m : List ℕ) (ps : List Place) (p : Place) (bs : List ℕ) (b : ℕ) → length ps ≡ length bs → store m (ps ++ p ∷ []) (bs ++ b ∷ []) ≡ store1 (store m ps bs) p b
-store-snoc m [] p [] b e = refl
-store-snoc m [] p (c ∷ bs) b e = absurd (omega arith)
-store-snoc m (q ∷ ps) p [] b e = absurd (omega arith)
-store-snoc m (q ∷ ps) p (c ∷ bs) b e = store-snoc (store1 m q c) ps p bs b (omega arith)
-
 -- ---- a byte whose place is none of those written is as it was
 abbrev pub Off : List Place → ℕ → Type 0
 Off [] i = Unit {0}
@@ -130,20 +124,6 @@ module _ (t : Table) (m : List ℕ) (a : ℕ) where
 
   pub fetched-all : (out : List ℕ) (k n : ℕ) → k ≤ n → n ≤ k → length out ≡ n → take k out ≡ fetch m (spots t (length m) a k) → out ≡ fetch m (spots t (length m) a n)
   fetched-all out k n h g e u = let z : k ≡ n = omega arith in sym (take-all k out (omega arith)) ∙ u ∙ ap (λ (x : ℕ). fetch m (spots t (length m) a x)) z
-
-  module _ (src : List ℕ) (k : ℕ) (l : List ℕ) (u : l ≡ store m (spots t (length m) a k) (take k src)) where
-    stored-length : length l ≡ length m
-    stored-length = ap length u ∙ length-store m (spots t (length m) a k) (take k src)
-
-    pub stored-next : k < length src → (l′ : List ℕ) → l′ ≡ store1 l (spot t (length l) (a + k)) (getD src k 0)
-        → l′ ≡ store m (spots t (length m) a (k + 1)) (take (k + 1) src)
-    stored-next h l′ e =
-        e ∙ rw (stored-length, add-one, take-suc src k 0 h, spots-snoc, u)
-        (sym (store-snoc m (spots t (length m) a k) (spot t (length m) (a + k)) (take k src) (getD src k 0) (length-spots t (length m) a k ∙ sym (length-take-le k src (omega arith)))))
-
-    pub stored-all : k ≤ length src → length src ≤ k → l ≡ store m (spots t (length m) a (length src)) src
-    stored-all h g = let z : k ≡ length src = omega arith in
-        u ∙ ap (store m (spots t (length m) a k)) (take-all k src g) ∙ ap (λ (x : ℕ). store m (spots t (length m) a x) src) z
 
 -- what was gathered into a buffer of n bytes
 pub gathered : (t : Table) (m : List ℕ) (a n : ℕ) (out out′ : List ℕ) → length out ≡ n → out′ ≡ fetch m (spots t (length m) a (length out)) → part out′ 0 n ≡ fetch m (spots t (length m) a n)

@@ -25,7 +25,7 @@ fn say_write(regions: &[u64], mem: &mut [u8], addr: u64, v: u16) {
     io::print_hex(STDOUT_FILENO, v as u64, 4);
     io::write_all(STDOUT_FILENO, b" at 0x");
     io::print_hex(STDOUT_FILENO, addr, 16);
-    if memory::write2(regions, mem, addr, 0, v) {
+    if writing::write2(regions, mem, addr, 0, v) {
         io::write_all(STDOUT_FILENO, b": written\n");
     } else {
         io::write_all(STDOUT_FILENO, b": refused\n");

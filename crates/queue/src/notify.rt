@@ -76,7 +76,7 @@ impl Queue {
         if self.event_idx_enabled {
             return Stopped::Disabled;
         }
-        if !memory::write2(
+        if !writing::write2(
             regions,
             mem,
             self.used_ring,
@@ -95,7 +95,7 @@ impl Queue {
     {
         let off = ask_offset(self.event_idx_enabled, self.size);
         let word = ask_word(self.event_idx_enabled, self.next_avail);
-        if !memory::write2(regions, mem, self.used_ring, off, word) {
+        if !writing::write2(regions, mem, self.used_ring, off, word) {
             return Asked::NotEnabled(Error::GuestMemory);
         }
         heard_on(self.next_avail, self.avail_idx(regions, mem))

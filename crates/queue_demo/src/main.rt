@@ -58,17 +58,17 @@ fn eight(next_avail: u16, next_used: u16, num_added: u16) -> Queue {
 
 // What a driver does: the entry at place i of the available ring is 100 + i.
 fn lay_first_entries(regions: &[u64], mem: &mut [u8]) {
-    memory::write2(regions, mem, AVAIL, 4, 100);
-    memory::write2(regions, mem, AVAIL, 6, 101);
-    memory::write2(regions, mem, AVAIL, 8, 102);
-    memory::write2(regions, mem, AVAIL, 10, 103);
+    writing::write2(regions, mem, AVAIL, 4, 100);
+    writing::write2(regions, mem, AVAIL, 6, 101);
+    writing::write2(regions, mem, AVAIL, 8, 102);
+    writing::write2(regions, mem, AVAIL, 10, 103);
 }
 
 fn lay_last_entries(regions: &[u64], mem: &mut [u8]) {
-    memory::write2(regions, mem, AVAIL, 12, 104);
-    memory::write2(regions, mem, AVAIL, 14, 105);
-    memory::write2(regions, mem, AVAIL, 16, 106);
-    memory::write2(regions, mem, AVAIL, 18, 107);
+    writing::write2(regions, mem, AVAIL, 12, 104);
+    writing::write2(regions, mem, AVAIL, 14, 105);
+    writing::write2(regions, mem, AVAIL, 16, 106);
+    writing::write2(regions, mem, AVAIL, 18, 107);
 }
 
 fn step(q: Queue, pass: AvailIter, regions: &[u64], mem: &[u8]) -> Queue {
@@ -100,7 +100,7 @@ fn begin(next_avail: u16, idx: u16, regions: &[u64], mem: &mut [u8]) {
     say(b", idx ");
     say_number(idx);
     say(b": ");
-    memory::write2(regions, mem, AVAIL, 2, idx);
+    writing::write2(regions, mem, AVAIL, 2, idx);
     let q = eight(next_avail, 0, 0);
     match q.iter(regions, mem) {
         Begun::Pass(pass) => {
@@ -119,7 +119,7 @@ fn question(next_used: u16, num_added: u16, used_event: u16, regions: &[u64], me
     say(b", used_event ");
     say_number(used_event);
     say(b": ");
-    memory::write2(regions, mem, AVAIL, 20, used_event);
+    writing::write2(regions, mem, AVAIL, 20, used_event);
     match eight(0, next_used, num_added).needs_notification(regions, mem) {
         Answered::Needed(needed, q) => {
             if needed {

@@ -8,7 +8,6 @@ use adding::Adding;
 use desc::Descriptor;
 use script::commands::Command;
 ghost use Prim.Native.Nat.{_≤_};
-ghost use lib.ListN.{length};
 
 // The words of the table: three for each of eight regions.
 pub const TABLE_WORDS: usize = 24;
@@ -21,14 +20,24 @@ pub fn on_whole(
     st: State,
     space: &mut [u8],
     table: &mut [u64],
-) -> Done
-    requires { ⌜ size ≤ length (now space) ⌝ }
-{
+) -> Done {
     match c {
         Command::Memory => memory(reading::number(numbers, 0), st, space, table),
         Command::Region => region(numbers, size, st, table),
-        _ => st.answers(Answer::Sum(script::crc::crc32(&space[..size]))),
+        _ => st.answers(sum(size, space)),
     }
+}
+
+fn sum(size: usize, space: &[u8]) -> Answer {
+    let end = least(size, space.len());
+    Answer::Sum(script::crc::crc32(&space[..end]))
+}
+
+// An image ends where the space does, at the latest.
+pub fn least(a: usize, b: usize) -> usize
+    ensures { λ r. ⌜ r ≤ b ⌝ }
+{
+    if a < b { a } else { b }
 }
 
 // The space is what an image can have at most: a larger one is refused.

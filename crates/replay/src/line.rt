@@ -15,18 +15,12 @@ ghost use Prim.Native.Nat.{_≤_};
 ghost use lib.ListN.{length};
 ghost use Rattle.replay.specs.Outcome.{Kept};
 
-fn least(a: usize, b: usize) -> usize
-    ensures { λ r. ⌜ r ≤ b ⌝ }
-{
-    if a < b { a } else { b }
-}
-
 // Runs a line: the image is at the start of the space, the regions are in the table. A line that is an error changes nothing: the
 // image and the table are what they were, and the state is the caller's own.
 pub fn run_line(line: &[u8], st: State, space: &mut [u8], table: &mut [u64]) -> Outcome
     ensures { λ r. ⌜ Kept r (now (space .entry)) (now (space .exit)) (now (table .entry)) (now (table .exit)) ⌝ }
 {
-    let size = least(st.size, space.len());
+    let size = guest::least(st.size, space.len());
     let mut numbers = [0u64; 65];
     let checked = checks::check_line(line, size, st, &mut numbers);
     match checked {

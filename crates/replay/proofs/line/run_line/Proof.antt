@@ -10,7 +10,6 @@ use Rattle.replay.proofs.line.run_line.Reads as reads
 use Rattle.replay.proofs.line.run_line.Lts as lts
 use Rattle.replay.proofs.checks.check_line.Reads as check-line-reads
 use Rattle.replay.proofs.guest.on_whole.Reads as on-whole-reads
-use Rattle.replay.proofs.line.least.Reads as least-reads
 use Rattle.replay.proofs.line.on_place.Reads as on-place-reads
 use Rattle.replay.proofs.line.run_call.Reads as run-call-reads
 use Rattle.replay.proofs.state.State.answers.Reads as answers-reads
