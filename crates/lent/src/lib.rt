@@ -1,7 +1,5 @@
 // SPDX-License-Identifier: Apache-2.0 AND BSD-3-Clause
-// The library's calls on words that the caller lends: the queue in ten, a chain in six, and numbers for answers. What crosses the
-// C interface is worked out here; queueledger_c exports it.
+// The queue in ten words that the caller lends, and numbers for answers: what crosses the C interface. `lent_calls` has the calls on
+// them, `lent_chain` chains and walks, and `queueledger_c` exports all of it.
 pub mod state; // state.rt: the queue in ten words
 pub mod answers; // answers.rt: answers as numbers
-pub mod calls; // calls.rt: the library's calls on a loaded queue
-pub mod walk; // walk.rt: a chain in six words, and walking it into an array

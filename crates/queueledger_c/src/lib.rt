@@ -14,8 +14,8 @@ ghost use Rattle.queue.specs.Notify.{stopOf, stopMem, askOf, askMem, questionOf
 ghost use Rattle.lent.specs.State.{bit, isSet, loadOf, onLoaded, codeOf, Settled, Called};
 ghost use Rattle.lent.specs.Answers.{madeOn, configured, got, begun, taken, placed, stopped, asked, answered, halfOf, putAsked, memOf, addingCode};
 ghost use Rattle.chain.specs.Steps.{stepOf, filteredOf};
-ghost use Rattle.lent.specs.Walk.{heldOf, wentCode, keptChain, onHeld, wentWalk, walkArray, wentStep, stepArray, startOf, WentOn, TookAll};
-ghost use Rattle.lent.specs.declared.walk.Went.the-variants.{Stay};
+ghost use Rattle.lent_chain.specs.Walk.{heldOf, wentCode, keptChain, onHeld, wentWalk, walkArray, wentStep, stepArray, startOf, WentOn, TookAll};
+ghost use Rattle.lent_chain.specs.declared.Went.the-variants.{Stay};
 ghost use Rattle.lent.specs.declared.state.Reply.the-variants.{Now, Same};
 
 // A new queue: max_size is a power of two, at most 32,768. What the words held before does not matter.
@@ -23,7 +23,7 @@ ghost use Rattle.lent.specs.declared.state.Reply.the-variants.{Now, Same};
 pub extern "C" fn ql_new(state: &mut [u64], max_size: u16) -> u32
     ensures { λ r. ⌜ Settled (now (state .entry)) (madeOn (now (state .entry)) (configured (newOf «max_size»))) r (now (state .exit)) ⌝ }
 {
-    lent::state::settle(state, lent::calls::new(state, max_size))
+    lent::state::settle(state, lent_calls::new(state, max_size))
 }
 
 // Adds a region to the table: the len guest addresses from base on lie in a memory of size bytes, from offset on.
@@ -46,7 +46,7 @@ pub extern "C" fn ql_add_region(
 pub extern "C" fn ql_reset(state: &mut [u64]) -> u32
     ensures { λ r. ⌜ Called (now (state .entry)) (λ q. Now 0 (resetOf q)) r (now (state .exit)) ⌝ }
 {
-    lent::state::settle(state, lent::calls::reset(lent::state::load(state)))
+    lent::state::settle(state, lent_calls::reset(lent::state::load(state)))
 }
 
 // The size that the driver chose: a power of two, at most the largest size.
@@ -54,7 +54,7 @@ pub extern "C" fn ql_reset(state: &mut [u64]) -> u32
 pub extern "C" fn ql_set_size(state: &mut [u64], size: u16) -> u32
     ensures { λ r. ⌜ Called (now (state .entry)) (λ q. configured (setSizeOf q size)) r (now (state .exit)) ⌝ }
 {
-    lent::state::settle(state, lent::calls::set_size(lent::state::load(state), size))
+    lent::state::settle(state, lent_calls::set_size(lent::state::load(state), size))
 }
 
 // The addresses of the three areas, by halves: one whose flag is 0 keeps its bits.
@@ -70,7 +70,7 @@ pub extern "C" fn ql_set_desc_table_address(
 {
     lent::state::settle(
         state,
-        lent::calls::set_desc_table_address(lent::state::load(state), has_low, low, has_high, high),
+        lent_calls::set_desc_table_address(lent::state::load(state), has_low, low, has_high, high),
     )
 }
 
@@ -86,7 +86,7 @@ pub extern "C" fn ql_set_avail_ring_address(
 {
     lent::state::settle(
         state,
-        lent::calls::set_avail_ring_address(lent::state::load(state), has_low, low, has_high, high),
+        lent_calls::set_avail_ring_address(lent::state::load(state), has_low, low, has_high, high),
     )
 }
 
@@ -102,7 +102,7 @@ pub extern "C" fn ql_set_used_ring_address(
 {
     lent::state::settle(
         state,
-        lent::calls::set_used_ring_address(lent::state::load(state), has_low, low, has_high, high),
+        lent_calls::set_used_ring_address(lent::state::load(state), has_low, low, has_high, high),
     )
 }
 
@@ -113,7 +113,7 @@ pub extern "C" fn ql_set_ready(state: &mut [u64], ready: u32) -> u32
 {
     lent::state::settle(
         state,
-        lent::calls::set_ready(lent::state::load(state), ready),
+        lent_calls::set_ready(lent::state::load(state), ready),
     )
 }
 
@@ -123,7 +123,7 @@ pub extern "C" fn ql_set_event_idx(state: &mut [u64], enabled: u32) -> u32
 {
     lent::state::settle(
         state,
-        lent::calls::set_event_idx(lent::state::load(state), enabled),
+        lent_calls::set_event_idx(lent::state::load(state), enabled),
     )
 }
 
@@ -133,7 +133,7 @@ pub extern "C" fn ql_set_next_avail(state: &mut [u64], next_avail: u16) -> u32
 {
     lent::state::settle(
         state,
-        lent::calls::set_next_avail(lent::state::load(state), next_avail),
+        lent_calls::set_next_avail(lent::state::load(state), next_avail),
     )
 }
 
@@ -143,7 +143,7 @@ pub extern "C" fn ql_set_next_used(state: &mut [u64], next_used: u16) -> u32
 {
     lent::state::settle(
         state,
-        lent::calls::set_next_used(lent::state::load(state), next_used),
+        lent_calls::set_next_used(lent::state::load(state), next_used),
     )
 }
 
@@ -154,7 +154,7 @@ pub extern "C" fn ql_go_to_previous_position(state: &mut [u64]) -> u32
 {
     lent::state::settle(
         state,
-        lent::calls::go_to_previous_position(lent::state::load(state)),
+        lent_calls::go_to_previous_position(lent::state::load(state)),
     )
 }
 
@@ -163,7 +163,7 @@ pub extern "C" fn ql_go_to_previous_position(state: &mut [u64]) -> u32
 pub extern "C" fn ql_is_valid(state: &[u64], regions: &[u64], mem: &[u8]) -> u32
     ensures { λ r. ⌜ r ≡ codeOf (onLoaded (loadOf (now (state .entry))) (λ q. Same (bit (validOf (now (regions .entry)) (length (now (mem .entry))) q)))) ⌝ }
 {
-    lent::state::answer(lent::calls::is_valid(lent::state::load(state), regions, mem))
+    lent::state::answer(lent_calls::is_valid(lent::state::load(state), regions, mem))
 }
 
 // The idx of the available ring, and of the used ring, as it stands in memory.
@@ -171,14 +171,14 @@ pub extern "C" fn ql_is_valid(state: &[u64], regions: &[u64], mem: &[u8]) -> u32
 pub extern "C" fn ql_avail_idx(state: &[u64], regions: &[u64], mem: &[u8]) -> u32
     ensures { λ r. ⌜ r ≡ codeOf (onLoaded (loadOf (now (state .entry))) (λ q. got (idxRead (now (regions .entry)) q (now (mem .entry))))) ⌝ }
 {
-    lent::state::answer(lent::calls::avail_idx(lent::state::load(state), regions, mem))
+    lent::state::answer(lent_calls::avail_idx(lent::state::load(state), regions, mem))
 }
 
 #[no_mangle]
 pub extern "C" fn ql_used_idx(state: &[u64], regions: &[u64], mem: &[u8]) -> u32
     ensures { λ r. ⌜ r ≡ codeOf (onLoaded (loadOf (now (state .entry))) (λ q. got (read2Of (now (regions .entry)) (now (mem .entry)) (idxAddr q)))) ⌝ }
 {
-    lent::state::answer(lent::calls::used_idx(lent::state::load(state), regions, mem))
+    lent::state::answer(lent_calls::used_idx(lent::state::load(state), regions, mem))
 }
 
 // Begin: the idx that is the end of the pass, for ql_next_head and ql_take.
@@ -186,7 +186,7 @@ pub extern "C" fn ql_used_idx(state: &[u64], regions: &[u64], mem: &[u8]) -> u32
 pub extern "C" fn ql_iter(state: &[u64], regions: &[u64], mem: &[u8]) -> u32
     ensures { λ r. ⌜ r ≡ codeOf (onLoaded (loadOf (now (state .entry))) (λ q. begun (beginOf (now (regions .entry)) q (now (mem .entry))))) ⌝ }
 {
-    lent::state::answer(lent::calls::iter(lent::state::load(state), regions, mem))
+    lent::state::answer(lent_calls::iter(lent::state::load(state), regions, mem))
 }
 
 // Next head: the next one of the pass that ends at last_index.
@@ -201,7 +201,7 @@ pub extern "C" fn ql_next_head(
 {
     lent::state::settle(
         state,
-        lent::calls::next_head(lent::state::load(state), regions, mem, last_index),
+        lent_calls::next_head(lent::state::load(state), regions, mem, last_index),
     )
 }
 
@@ -212,7 +212,7 @@ pub extern "C" fn ql_pop(state: &mut [u64], regions: &[u64], mem: &[u8]) -> u32
 {
     lent::state::settle(
         state,
-        lent::calls::pop(lent::state::load(state), regions, mem),
+        lent_calls::pop(lent::state::load(state), regions, mem),
     )
 }
 
@@ -230,7 +230,7 @@ pub extern "C" fn ql_add_used(
 {
     lent::state::settle(
         state,
-        lent::calls::add_used(lent::state::load(state), regions, mem, head, len),
+        lent_calls::add_used(lent::state::load(state), regions, mem, head, len),
     )
 }
 
@@ -242,7 +242,7 @@ pub extern "C" fn ql_disable_notification(state: &mut [u64], regions: &[u64], me
 {
     lent::state::settle(
         state,
-        lent::calls::disable_notification(lent::state::load(state), regions, mem),
+        lent_calls::disable_notification(lent::state::load(state), regions, mem),
     )
 }
 
@@ -254,7 +254,7 @@ pub extern "C" fn ql_enable_notification(state: &mut [u64], regions: &[u64], mem
 {
     lent::state::settle(
         state,
-        lent::calls::enable_notification(lent::state::load(state), regions, mem),
+        lent_calls::enable_notification(lent::state::load(state), regions, mem),
     )
 }
 
@@ -265,7 +265,7 @@ pub extern "C" fn ql_needs_notification(state: &mut [u64], regions: &[u64], mem:
 {
     lent::state::settle(
         state,
-        lent::calls::needs_notification(lent::state::load(state), regions, mem),
+        lent_calls::needs_notification(lent::state::load(state), regions, mem),
     )
 }
 
@@ -283,7 +283,7 @@ pub extern "C" fn ql_put_and_ask(
 {
     lent::state::settle(
         state,
-        lent::calls::put_and_ask(lent::state::load(state), regions, mem, head, len),
+        lent_calls::put_and_ask(lent::state::load(state), regions, mem, head, len),
     )
 }
 
@@ -293,9 +293,9 @@ pub extern "C" fn ql_chain(state: &[u64], chain: &mut [u64], head: u16) -> u32
     ensures { λ r. ⌜ r ≡ wentCode (startOf (loadOf (now (state .entry))) (length (now (chain .entry))) head) ⌝ }
     ensures { λ _. ⌜ now (chain .exit) ≡ keptChain (now (chain .entry)) (startOf (loadOf (now (state .entry))) (length (now (chain .entry))) head) ⌝ }
 {
-    lent::walk::settle_chain(
+    lent_chain::settle_chain(
         chain,
-        lent::walk::start(lent::state::load(state), chain.len(), head),
+        lent_chain::start(lent::state::load(state), chain.len(), head),
     )
 }
 
@@ -304,9 +304,9 @@ pub extern "C" fn ql_chain(state: &[u64], chain: &mut [u64], head: u16) -> u32
 pub extern "C" fn ql_next(chain: &mut [u64], regions: &[u64], mem: &[u8], out: &mut [u64]) -> u32
     ensures { λ r. ⌜ WentOn (now (chain .entry)) (onHeld (heldOf (now (chain .entry))) (λ c. wentStep (now (out .entry)) (stepOf (now (regions .entry)) (now (mem .entry)) c)) Stay) (onHeld (heldOf (now (chain .entry))) (λ c. stepArray (now (out .entry)) (stepOf (now (regions .entry)) (now (mem .entry)) c)) (λ k. (now (out .entry)))) r (now (chain .exit)) (now (out .exit)) ⌝ }
 {
-    lent::walk::settle_chain(
+    lent_chain::settle_chain(
         chain,
-        lent::walk::next(lent::walk::load_chain(chain), regions, mem, out),
+        lent_chain::next(lent_chain::load_chain(chain), regions, mem, out),
     )
 }
 
@@ -319,9 +319,9 @@ pub extern "C" fn ql_next_readable(
 ) -> u32
     ensures { λ r. ⌜ WentOn (now (chain .entry)) (onHeld (heldOf (now (chain .entry))) (λ c. wentStep (now (out .entry)) (filteredOf false (now (regions .entry)) (now (mem .entry)) c)) Stay) (onHeld (heldOf (now (chain .entry))) (λ c. stepArray (now (out .entry)) (filteredOf false (now (regions .entry)) (now (mem .entry)) c)) (λ k. (now (out .entry)))) r (now (chain .exit)) (now (out .exit)) ⌝ }
 {
-    lent::walk::settle_chain(
+    lent_chain::settle_chain(
         chain,
-        lent::walk::next_readable(lent::walk::load_chain(chain), regions, mem, out),
+        lent_chain::next_readable(lent_chain::load_chain(chain), regions, mem, out),
     )
 }
 
@@ -334,9 +334,9 @@ pub extern "C" fn ql_next_writable(
 ) -> u32
     ensures { λ r. ⌜ WentOn (now (chain .entry)) (onHeld (heldOf (now (chain .entry))) (λ c. wentStep (now (out .entry)) (filteredOf true (now (regions .entry)) (now (mem .entry)) c)) Stay) (onHeld (heldOf (now (chain .entry))) (λ c. stepArray (now (out .entry)) (filteredOf true (now (regions .entry)) (now (mem .entry)) c)) (λ k. (now (out .entry)))) r (now (chain .exit)) (now (out .exit)) ⌝ }
 {
-    lent::walk::settle_chain(
+    lent_chain::settle_chain(
         chain,
-        lent::walk::next_writable(lent::walk::load_chain(chain), regions, mem, out),
+        lent_chain::next_writable(lent_chain::load_chain(chain), regions, mem, out),
     )
 }
 
@@ -345,9 +345,9 @@ pub extern "C" fn ql_next_writable(
 pub extern "C" fn ql_walk(chain: &mut [u64], regions: &[u64], mem: &[u8], out: &mut [u64]) -> u32
     ensures { λ r. ⌜ WentOn (now (chain .entry)) (onHeld (heldOf (now (chain .entry))) (wentWalk (now (regions .entry)) (now (mem .entry)) (now (out .entry))) Stay) (onHeld (heldOf (now (chain .entry))) (walkArray (now (regions .entry)) (now (mem .entry)) (now (out .entry))) (λ k. (now (out .entry)))) r (now (chain .exit)) (now (out .exit)) ⌝ }
 {
-    lent::walk::settle_chain(
+    lent_chain::settle_chain(
         chain,
-        lent::walk::walk_held(lent::walk::load_chain(chain), regions, mem, out),
+        lent_chain::walk_held(lent_chain::load_chain(chain), regions, mem, out),
     )
 }
 
@@ -363,7 +363,7 @@ pub extern "C" fn ql_take(
 ) -> u32
     ensures { λ r. ⌜ TookAll (now (regions .entry)) (now (mem .entry)) «last_index» (now (state .entry)) (now (chain .entry)) (now (out .entry)) r (now (state .exit)) (now (chain .exit)) (now (out .exit)) ⌝ }
 {
-    let x = lent::walk::take(
+    let x = lent_chain::take(
         lent::state::load(state),
         chain.len(),
         out.len(),
@@ -371,6 +371,6 @@ pub extern "C" fn ql_take(
         mem,
         last_index,
     );
-    lent::state::settle(state, lent::walk::reply(x));
-    lent::walk::settle_chain(chain, lent::walk::walk_taken(x, regions, mem, out))
+    lent::state::settle(state, lent_chain::reply(x));
+    lent_chain::settle_chain(chain, lent_chain::walk_taken(x, regions, mem, out))
 }

@@ -1,0 +1,20 @@
+-- SPDX-License-Identifier: Apache-2.0 AND BSD-3-Clause
+use borrow.Author.Tests.{le-leb, lt-leb}
+use borrow.Author.Needs.{needs}
+use Rattle.lent_calls.proofs.new.Statement.{statement}
+use Rattle.lent_calls.proofs.new.Tie as tie
+
+returns : tie.Need-returns
+returns c = rw (lt-leb _ _ (c .if1 .taken))
+
+new-requires : tie.Need-new-requires
+new-requires c κs = search needs
+
+of-configured-requires : tie.Need-of-configured-requires
+of-configured-requires c κs = search needs
+
+returns-2 : tie.Need-returns-2
+returns-2 c = rw (le-leb _ _ (c .before .before .if1 .left), c .of-configured .ensures, c .before .new .ensures)
+
+pub new-spec : {M : Type 1} → statement M
+new-spec = tie.close (tie.spec returns new-requires of-configured-requires returns-2)
