@@ -2,12 +2,12 @@
 // Runs a script of the replay language from standard input, and writes its answers to standard output.
 use libc::STDIN_FILENO;
 use libc::STDOUT_FILENO;
-use replay::state::Done;
-use replay::state::Outcome;
-use replay::state::State;
+use lines::state::Done;
+use lines::state::Outcome;
+use lines::state::State;
 
 // What is known between two lines.
-struct Session {
+struct Progress {
     state: State,
     // How many lines have ended, and how many bytes of the next one are there.
     lines: u64,
@@ -18,7 +18,7 @@ struct Session {
 }
 
 // Answers are written when there may be no room for one more.
-const FULL: usize = 65536 - replay::text::LONGEST_ANSWER;
+const FULL: usize = 65536 - wording::LONGEST_ANSWER;
 
 fn main() {
     lend([0; 1048576]);
@@ -38,15 +38,15 @@ fn run(space: &mut [u8], table: &mut [u64], line: &mut [u8], out: &mut [u8]) {
 }
 
 // The last line may lack its line feed.
-fn end_script(s: Session, space: &mut [u8], table: &mut [u64], line: &[u8], out: &mut [u8]) {
+fn end_script(s: Progress, space: &mut [u8], table: &mut [u64], line: &[u8], out: &mut [u8]) {
     if 0 < s.begun {
         let last = end_line(s, space, table, line, out);
         write_waiting(last, out);
     }
 }
 
-fn start() -> Session {
-    Session {
+fn start() -> Progress {
+    Progress {
         state: State::new(),
         lines: 0,
         begun: 0,
@@ -57,12 +57,12 @@ fn start() -> Session {
 
 // A proved loop has to end, and nothing says that the input does: so it counts down from a number that no run uses up.
 fn read_all(
-    from: Session,
+    from: Progress,
     space: &mut [u8],
     table: &mut [u64],
     line: &mut [u8],
     out: &mut [u8],
-) -> Session {
+) -> Progress {
     let mut s = from;
     let mut turns = u64::MAX;
     while 0 < turns {
@@ -77,12 +77,12 @@ fn read_all(
 
 // One read, and the lines that end in it. Their answers are written before the next read, which may have to wait.
 fn read_some(
-    s: Session,
+    s: Progress,
     space: &mut [u8],
     table: &mut [u64],
     line: &mut [u8],
     out: &mut [u8],
-) -> Session {
+) -> Progress {
     let mut buffer = io::large_buffer();
     let got = libc::read(STDIN_FILENO, &mut buffer);
     if got <= 0 {
@@ -92,19 +92,19 @@ fn read_some(
     write_waiting(feed(&buffer[..n], s, space, table, line, out), out)
 }
 
-fn end_of(mut s: Session) -> Session {
+fn end_of(mut s: Progress) -> Progress {
     s.ended = true;
     s
 }
 
 fn feed(
     part: &[u8],
-    from: Session,
+    from: Progress,
     space: &mut [u8],
     table: &mut [u64],
     line: &mut [u8],
     out: &mut [u8],
-) -> Session {
+) -> Progress {
     let mut s = from;
     let mut i = 0;
     while i < part.len() {
@@ -119,7 +119,7 @@ fn feed(
     s
 }
 
-fn longer(mut s: Session, line: &mut [u8], part: &[u8]) -> Session {
+fn longer(mut s: Progress, line: &mut [u8], part: &[u8]) -> Progress {
     s.begun = append(line, s.begun, part);
     s
 }
@@ -145,12 +145,12 @@ fn store(line: &mut [u8], at: usize, b: u8) -> usize {
 }
 
 fn end_line(
-    s: Session,
+    s: Progress,
     space: &mut [u8],
     table: &mut [u64],
     line: &[u8],
     out: &mut [u8],
-) -> Session {
+) -> Progress {
     let begun = s.begun;
     if line.len() < begun {
         return s;
@@ -159,19 +159,19 @@ fn end_line(
 }
 
 fn answer_line(
-    s: Session,
+    s: Progress,
     space: &mut [u8],
     table: &mut [u64],
     line: &[u8],
     out: &mut [u8],
-) -> Session {
+) -> Progress {
     let state = s.state;
     let number = std::num::wrapping_add_u64(s.lines, 1);
     let outcome = replay::line::run_line(line, state, space, table);
     match outcome {
         Outcome::Silent => next_line(state, number, s.waiting, out),
         Outcome::Wrong(fault) => {
-            let waiting = replay::text::write_fault(out, s.waiting, number, fault);
+            let waiting = wording::write_fault(out, s.waiting, number, fault);
             next_line(state, number, waiting, out)
         }
         Outcome::Ran(done) => answer(done, number, s.waiting, space, line, out),
@@ -185,15 +185,15 @@ fn answer(
     space: &[u8],
     line: &[u8],
     out: &mut [u8],
-) -> Session {
+) -> Progress {
     let state = done.state;
     let said = done.answer;
-    let longer = replay::text::write_answer(out, waiting, line, said, space);
+    let longer = wording::write_answer(out, waiting, line, said, space);
     next_line(state, number, longer, out)
 }
 
-fn next_line(state: State, lines: u64, waiting: usize, out: &[u8]) -> Session {
-    let s = Session {
+fn next_line(state: State, lines: u64, waiting: usize, out: &[u8]) -> Progress {
+    let s = Progress {
         state,
         lines,
         begun: 0,
@@ -206,7 +206,7 @@ fn next_line(state: State, lines: u64, waiting: usize, out: &[u8]) -> Session {
     write_waiting(s, out)
 }
 
-fn write_waiting(mut s: Session, out: &[u8]) -> Session {
+fn write_waiting(mut s: Progress, out: &[u8]) -> Progress {
     let waiting = s.waiting;
     if waiting <= out.len() {
         io::write_all(STDOUT_FILENO, &out[0..waiting]);

@@ -1,10 +1,10 @@
 // SPDX-License-Identifier: Apache-2.0 AND BSD-3-Clause
 // The chain commands.
-use crate::state::Answer;
-use crate::state::Done;
-use crate::state::State;
 use chain::DescriptorChain;
 use chain::Step;
+use lines::state::Answer;
+use lines::state::Done;
+use lines::state::State;
 use script::commands::Command;
 
 // `next`, `readable`, `writable`, and else `walk`.

@@ -1,11 +1,11 @@
 // SPDX-License-Identifier: Apache-2.0 AND BSD-3-Clause
 // The queue commands: what the device does.
-use crate::reading;
-use crate::state::Answer;
-use crate::state::CurrentPass;
-use crate::state::Done;
-use crate::state::State;
 use chain::DescriptorChain;
+use lines::reading;
+use lines::state::Answer;
+use lines::state::CurrentPass;
+use lines::state::Done;
+use lines::state::State;
 use queue::Answered;
 use queue::Asked;
 use queue::AvailIter;

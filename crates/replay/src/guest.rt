@@ -1,11 +1,11 @@
 // SPDX-License-Identifier: Apache-2.0 AND BSD-3-Clause
 // The image commands: what the guest does.
-use crate::reading;
-use crate::state::Answer;
-use crate::state::Done;
-use crate::state::State;
 use adding::Adding;
 use desc::Descriptor;
+use lines::reading;
+use lines::state::Answer;
+use lines::state::Done;
+use lines::state::State;
 use script::commands::Command;
 ghost use Prim.Native.Nat.{_≤_};
 

@@ -1,15 +1,15 @@
 // SPDX-License-Identifier: Apache-2.0 AND BSD-3-Clause
 // A line, from its bytes to what became of it.
 use crate::chains;
-use crate::checks;
-use crate::checks::Call;
-use crate::checks::Checked;
 use crate::device;
 use crate::guest;
-use crate::state::Answer;
-use crate::state::Done;
-use crate::state::Outcome;
-use crate::state::State;
+use lines::checks;
+use lines::checks::Call;
+use lines::checks::Checked;
+use lines::state::Answer;
+use lines::state::Done;
+use lines::state::Outcome;
+use lines::state::State;
 use script::commands::Command;
 ghost use Prim.Native.Nat.{_≤_};
 ghost use lib.ListN.{length};

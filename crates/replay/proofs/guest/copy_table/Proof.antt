@@ -8,7 +8,7 @@ use Rattle.replay.proofs.guest.copy_table.Statement.{statement}
 use Rattle.replay.proofs.guest.copy_table.Tie as tie
 use Rattle.replay.proofs.guest.copy_table.Reads as reads
 use Rattle.replay.proofs.guest.copy_table.Lts as lts
-use Rattle.replay.proofs.reading.number.Reads as number-reads
+use Rattle.lines.proofs.reading.number.Reads as number-reads
 
 abbrev Inv-loop : tie.InvT-loop
 Inv-loop from table₀ i₀ table i = length table ≡ length table₀

@@ -9,8 +9,8 @@ use Rattle.replay.proofs.guest.memory.Reads as reads
 use Rattle.replay.proofs.guest.memory.Lts as lts
 use Rattle.replay.proofs.guest.fill.Reads as fill-reads
 use Rattle.replay.proofs.guest.only_region.Reads as only-region-reads
-use Rattle.replay.proofs.state.State.answers.Reads as answers-reads
-use Rattle.replay.proofs.state.State.of_image.Reads as of-image-reads
+use Rattle.lines.proofs.state.State.answers.Reads as answers-reads
+use Rattle.lines.proofs.state.State.of_image.Reads as of-image-reads
 
 -- src/guest.rt:31:9
 answers-requires : tie.Need-answers-requires

@@ -9,7 +9,7 @@ use Rattle.replay.proofs.guest.store_bytes.Tie as tie
 use Rattle.replay.proofs.guest.store_bytes.Reads as reads
 use Rattle.replay.proofs.guest.store_bytes.Lts as lts
 use Rattle.replay.proofs.guest.low_byte.Reads as low-byte-reads
-use Rattle.replay.proofs.reading.number.Reads as number-reads
+use Rattle.lines.proofs.reading.number.Reads as number-reads
 
 abbrev Inv-loop : tie.InvT-loop
 Inv-loop part₀ numbers i₀ part i = length part ≡ length part₀

@@ -2,17 +2,17 @@
 use native.Mathlib.Omega.{arith}
 use mathlib.Core.Path.{sym}
 use lib.Seq.{length-take-le}
-use Rattle.replay.specs.Outcome.{place-in}
+use Rattle.lines.specs.Found.{place-in}
 use borrow.Author.Needs.{needs}
 use Rattle.replay.proofs.line.run_line.Statement.{statement}
 use Rattle.replay.proofs.line.run_line.Tie as tie
 use Rattle.replay.proofs.line.run_line.Reads as reads
 use Rattle.replay.proofs.line.run_line.Lts as lts
-use Rattle.replay.proofs.checks.check_line.Reads as check-line-reads
+use Rattle.lines.proofs.checks.check_line.Reads as check-line-reads
 use Rattle.replay.proofs.guest.on_whole.Reads as on-whole-reads
 use Rattle.replay.proofs.line.on_place.Reads as on-place-reads
 use Rattle.replay.proofs.line.run_call.Reads as run-call-reads
-use Rattle.replay.proofs.state.State.answers.Reads as answers-reads
+use Rattle.lines.proofs.state.State.answers.Reads as answers-reads
 
 -- src/line.rt:29:9
 least-requires : tie.Need-least-requires

@@ -3,11 +3,11 @@ use borrow.Author.Needs.{needs}
 use lib.ListN.{length}
 use Prim.Native.Nat.{_-_}
 use mathlib.Core.Path.{_≡_}
-use Rattle.replay.proofs.text.dump.Statement.{statement}
-use Rattle.replay.proofs.text.dump.Tie as tie
-use Rattle.replay.proofs.text.dump.Reads as reads
-use Rattle.replay.proofs.text.dump.Lts as lts
-use Rattle.replay.proofs.text.dump_byte.Reads as dump-byte-reads
+use Rattle.wording.proofs.dump.Statement.{statement}
+use Rattle.wording.proofs.dump.Tie as tie
+use Rattle.wording.proofs.dump.Reads as reads
+use Rattle.wording.proofs.dump.Lts as lts
+use Rattle.wording.proofs.dump_byte.Reads as dump-byte-reads
 
 abbrev Inv-loop : tie.InvT-loop
 Inv-loop out₀ at image start end place₀ i₀ out place i = length out ≡ length out₀

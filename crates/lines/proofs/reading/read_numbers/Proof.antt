@@ -3,13 +3,13 @@ use borrow.Author.Needs.{needs}
 use native.Mathlib.Omega.{arith}
 use lib.ListN.{length}
 use mathlib.Core.Path.{_≡_}
-use Rattle.replay.proofs.reading.read_numbers.Statement.{statement}
-use Rattle.replay.proofs.reading.read_numbers.Tie as tie
-use Rattle.replay.proofs.reading.read_numbers.Reads as reads
-use Rattle.replay.proofs.reading.read_numbers.Lts as lts
-use Rattle.replay.proofs.reading.kinds_after.Reads as kinds-after-reads
-use Rattle.replay.proofs.reading.put_number.Reads as put-number-reads
-use Rattle.replay.proofs.reading.read_kind.Reads as read-kind-reads
+use Rattle.lines.proofs.reading.read_numbers.Statement.{statement}
+use Rattle.lines.proofs.reading.read_numbers.Tie as tie
+use Rattle.lines.proofs.reading.read_numbers.Reads as reads
+use Rattle.lines.proofs.reading.read_numbers.Lts as lts
+use Rattle.lines.proofs.reading.kinds_after.Reads as kinds-after-reads
+use Rattle.lines.proofs.reading.put_number.Reads as put-number-reads
+use Rattle.lines.proofs.reading.read_kind.Reads as read-kind-reads
 use Rattle.script.proofs.words.next_word.Reads as next-word-reads
 
 abbrev Inv-loop : tie.InvT-loop

@@ -4,11 +4,11 @@ use native.Mathlib.Omega.{arith}
 use lib.ListN.{length}
 use Prim.Native.Nat.{_-_}
 use mathlib.Core.Path.{_≡_}
-use Rattle.replay.proofs.text.put.Statement.{statement}
-use Rattle.replay.proofs.text.put.Tie as tie
-use Rattle.replay.proofs.text.put.Reads as reads
-use Rattle.replay.proofs.text.put.Lts as lts
-use Rattle.replay.proofs.text.byte.Reads as byte-reads
+use Rattle.wording.proofs.put.Statement.{statement}
+use Rattle.wording.proofs.put.Tie as tie
+use Rattle.wording.proofs.put.Reads as reads
+use Rattle.wording.proofs.put.Lts as lts
+use Rattle.wording.proofs.byte.Reads as byte-reads
 
 abbrev Inv-loop : tie.InvT-loop
 Inv-loop out₀ at text place₀ i₀ out place i = length out ≡ length out₀

@@ -13,7 +13,7 @@ use queue::AvailIter;
 use queue::Queue;
 use script::commands::Command;
 use script::words::Word;
-ghost use Rattle.replay.specs.Outcome.{InImage, NoPlace};
+ghost use Rattle.lines.specs.Found.{InImage, NoPlace};
 
 pub const LONGEST_LINE: usize = 4095;
 

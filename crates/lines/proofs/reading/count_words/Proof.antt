@@ -2,10 +2,10 @@
 use borrow.Author.Needs.{needs}
 use native.Mathlib.Omega.{arith}
 use Prim.Native.Nat.{_-_, _≤_}
-use Rattle.replay.proofs.reading.count_words.Statement.{statement}
-use Rattle.replay.proofs.reading.count_words.Tie as tie
-use Rattle.replay.proofs.reading.count_words.Reads as reads
-use Rattle.replay.proofs.reading.count_words.Lts as lts
+use Rattle.lines.proofs.reading.count_words.Statement.{statement}
+use Rattle.lines.proofs.reading.count_words.Tie as tie
+use Rattle.lines.proofs.reading.count_words.Reads as reads
+use Rattle.lines.proofs.reading.count_words.Lts as lts
 use Rattle.script.proofs.words.next_word.Reads as next-word-reads
 
 abbrev Inv-loop : tie.InvT-loop

@@ -1,14 +1,14 @@
 -- SPDX-License-Identifier: Apache-2.0 AND BSD-3-Clause
-use Rattle.replay.specs.Outcome.{inImage}
+use Rattle.lines.specs.Found.{inImage}
 use borrow.Author.Needs.{needs}
-use Rattle.replay.proofs.checks.check_needs.Statement.{statement}
-use Rattle.replay.proofs.checks.check_needs.Tie as tie
-use Rattle.replay.proofs.checks.check_needs.Reads as reads
-use Rattle.replay.proofs.checks.check_needs.Lts as lts
-use Rattle.replay.proofs.checks.check_place.Reads as check-place-reads
-use Rattle.replay.proofs.checks.check_queue.Reads as check-queue-reads
-use Rattle.replay.proofs.checks.extent.Reads as extent-reads
-use Rattle.replay.proofs.reading.number.Reads as number-reads
+use Rattle.lines.proofs.checks.check_needs.Statement.{statement}
+use Rattle.lines.proofs.checks.check_needs.Tie as tie
+use Rattle.lines.proofs.checks.check_needs.Reads as reads
+use Rattle.lines.proofs.checks.check_needs.Lts as lts
+use Rattle.lines.proofs.checks.check_place.Reads as check-place-reads
+use Rattle.lines.proofs.checks.check_queue.Reads as check-queue-reads
+use Rattle.lines.proofs.checks.extent.Reads as extent-reads
+use Rattle.lines.proofs.reading.number.Reads as number-reads
 
 -- src/checks.rt:85:25
 enum-told : tie.Need-enum-told
