@@ -23,9 +23,13 @@
  *   between: take ql_add_used, a full fence and ql_needs_notification in place of ql_put_and_ask, and after
  *   ql_enable_notification a full fence and ql_avail_idx.
  *
- * All the rest is checked by the call or proved of it, for every content of every slice and for all numbers: each call
- * ends, and touches guest memory only where the regions say that it is. That holds for the queue's three areas. A
- * descriptor's address and length are the guest's word: nothing here has tested that they lie in guest memory.
+ * All the rest is checked by the call or proved of it, for every content of every slice and for all numbers. Each call
+ * ends. No byte of mem changes but those of the few fields of the used ring that the call names, which lie where the
+ * regions say that memory is; and no byte of mem that no region maps has a say in an answer. Which bytes are read and how
+ * often, is in no proof: docs/THEOREMS.md, "The audit of accesses".
+ *
+ * What the library does not know, and the device has to: a descriptor's address and length are the guest's word, and nothing
+ * here has tested that they lie in guest memory; and a put takes any head below the size and any length.
  */
 #ifndef QUEUELEDGER_H
 #define QUEUELEDGER_H
@@ -223,11 +227,16 @@ uint32_t ql_iter(const uint64_t *state, size_t state_len, const uint64_t *region
 /*
  * The next head of a pass. Answers the head, or QL_NONE: the pass is at its end, or the entry can't be read, and then
  * QL_NEXT_AVAIL is not at last_index. A head is the guest's word too: one that is not below the size has no descriptors.
+ * Begin anew after ql_pop, ql_set_next_avail and ql_reset: the last_index from before may be passed, and then the pass has
+ * up to 65,535 heads more, which nobody announced. Nothing tests this.
  */
 uint32_t ql_next_head(uint64_t *state, size_t state_len, const uint64_t *regions, size_t regions_len,
     const uint8_t *mem, size_t mem_len, uint16_t last_index);
 
-/* Begin and next head in one. Answers the head, or QL_NONE, also where ql_iter would have been refused. */
+/*
+ * Begin and next head in one. Answers the head, or QL_NONE, also where ql_iter would have been refused: a loop of ql_pop and
+ * ql_enable_notification does not end where idx is wrong. A pass from before is not to be gone on with.
+ */
 uint32_t ql_pop(uint64_t *state, size_t state_len, const uint64_t *regions, size_t regions_len,
     const uint8_t *mem, size_t mem_len);
 
@@ -282,7 +291,8 @@ uint32_t ql_walk(uint64_t *chain, size_t chain_len, const uint64_t *regions, siz
 
 /*
  * Put: the chain that starts at head is done, and the device wrote len bytes to it. Answers 0; or
- * QL_INVALID_DESCRIPTOR_INDEX, QL_GUEST_MEMORY. That the head was taken is not tested: the device knows what it took.
+ * QL_INVALID_DESCRIPTOR_INDEX, QL_GUEST_MEMORY. That the head was taken and that so much was written is not tested: the
+ * device knows. A driver that is told of more than was written reads what lay in its buffer before.
  */
 uint32_t ql_add_used(uint64_t *state, size_t state_len, const uint64_t *regions, size_t regions_len,
     uint8_t *mem, size_t mem_len, uint16_t head, uint32_t len);

@@ -1,5 +1,5 @@
 -- SPDX-License-Identifier: Apache-2.0 AND BSD-3-Clause
--- The walk is right about VIRTIO 1.2, 2.7.5: it is the sequence that NEXT and next give, cut as document 01 cuts it; a lawful chain is walked
+-- The walk is right about VIRTIO 1.2, 2.7.5: it is the sequence that NEXT and next give, cut as docs/QUEUE.md says (section 4); a lawful chain is walked
 -- whole, and then there is none.
 use Prim.Native.Nat.{ℕ, zero, suc, _+_, _-_, _<_, _≤_}
 use native.Mathlib.Omega.{arith}

@@ -1,5 +1,5 @@
 -- SPDX-License-Identifier: Apache-2.0 AND BSD-3-Clause
--- Document 01's worked values for chains (section 7), for every memory that holds such descriptors in a table of 8: what next yields, over and
+-- The worked values for chains (docs/QUEUE.md, section 7), for every memory that holds such descriptors in a table of 8: what next yields, over and
 -- over, before it says that there is none.
 use Prim.Native.Nat.{ℕ}
 use native.Mathlib.Omega.{arith}

@@ -1,5 +1,5 @@
 // SPDX-License-Identifier: Apache-2.0 AND BSD-3-Clause
-// Document 01's worked values for chains, and laid chains, in words: one region of 256 bytes at guest address 0, and in it a table of 8
+// The worked values for chains (docs/QUEUE.md), and laid chains, in words: one region of 256 bytes at guest address 0, and in it a table of 8
 // descriptors at guest address 0.
 use chain::DescriptorChain;
 use chain::Step;
