@@ -26,7 +26,7 @@
  * All the rest is checked by the call or proved of it, for every content of every slice and for all numbers. Each call
  * ends. No byte of mem changes but those of the few fields of the used ring that the call names, which lie where the
  * regions say that memory is; and no byte of mem that no region maps has a say in an answer. Which bytes are read and how
- * often, is in no proof: docs/THEOREMS.md, "The audit of accesses".
+ * often is in no proof: docs/THEOREMS.md, "The audit of accesses".
  *
  * What the library does not know, and the device has to: a descriptor's address and length are the guest's word, and nothing
  * here has tested that they lie in guest memory; and a put takes any head below the size and any length.
