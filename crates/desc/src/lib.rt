@@ -68,21 +68,21 @@ impl Descriptor {
     pub fn has_next(self) -> bool
         ensures { λ r. ⌜ r ≡ hasNext self ⌝ }
     {
-        self.flags % 2 == 1
+        self.flags % 2 == VRING_DESC_F_NEXT
     }
 
     // The device writes this element; without the flag it reads it.
     pub fn is_write_only(self) -> bool
         ensures { λ r. ⌜ r ≡ isWriteOnly self ⌝ }
     {
-        self.flags / 2 % 2 == 1
+        self.flags / VRING_DESC_F_WRITE % 2 == 1
     }
 
     // The element is a table of descriptors.
     pub fn refers_to_indirect_table(self) -> bool
         ensures { λ r. ⌜ r ≡ isIndirect self ⌝ }
     {
-        self.flags / 4 % 2 == 1
+        self.flags / VRING_DESC_F_INDIRECT % 2 == 1
     }
 
     // The descriptor's 16 bytes.

@@ -68,9 +68,9 @@ pub fn find(regions: &[u64], size: usize, a: u64) -> Stretch
     ensures { λ s. ⌜ s ≡ stretchOf (now (regions .entry)) size a ⌝ }
 {
     let mut at: usize = 0;
-    let mut rows: usize = 8;
+    let mut rows: usize = REGIONS;
     while 0 < rows {
-        if regions.len() - at < 3 {
+        if regions.len() - at < REGION_WORDS {
             return Stretch::Nothing;
         }
         match row_from(regions[at], regions[at + 1], regions[at + 2], size, a) {
@@ -78,7 +78,7 @@ pub fn find(regions: &[u64], size: usize, a: u64) -> Stretch
                 return Stretch::Run(i, n);
             }
             Stretch::Nothing => {
-                at += 3;
+                at += REGION_WORDS;
                 rows -= 1;
             }
         }
@@ -155,9 +155,9 @@ fn find_run(regions: &[u64], size: usize, a: u64, n: u64) -> Place
     ensures { λ p. ⌜ Seated (now (regions .entry)) size a n p ⌝ }
 {
     let mut at: usize = 0;
-    let mut rows: usize = 8;
+    let mut rows: usize = REGIONS;
     while 0 < rows {
-        if regions.len() - at < 3 {
+        if regions.len() - at < REGION_WORDS {
             return Place::Nowhere;
         }
         match side_of(regions[at], regions[at + 1], regions[at + 2], size, a, n) {
@@ -165,7 +165,7 @@ fn find_run(regions: &[u64], size: usize, a: u64, n: u64) -> Place
                 return Place::At(i);
             }
             Side::Away => {
-                at += 3;
+                at += REGION_WORDS;
                 rows -= 1;
             }
             Side::Split => {
@@ -194,7 +194,7 @@ pub fn covers(regions: &[u64], size: usize, addr: u64, n: u64) -> bool
 {
     let mut a = addr;
     let mut left = n;
-    let mut steps: usize = 8;
+    let mut steps: usize = REGIONS;
     if left == 0 {
         return true;
     }

@@ -7,77 +7,26 @@ use Rattle.adding.specs.Grow.{free-fits, grown-full, grown-refused, grow
 use Rattle.adding.proofs.add_region.Statement.{statement}
 use Rattle.adding.proofs.add_region.Tie as tie
 
-free-row-requires : tie.Need-free-row-requires
-free-row-requires c κs = search needs
-
-enum-known-at : tie.Need-enum-known-at
-enum-known-at c = search needs
-
-region-fault-requires : tie.Need-region-fault-requires
-region-fault-requires c κs = search needs
-
-enum-told : tie.Need-enum-told
-enum-told c = search needs
-
 put-row-requires : tie.Need-put-row-requires
 put-row-requires c κs = free-fits _ _ _ (c .before .before .before .before .before .before .before .before .free-row .ensures) (c .before .before .before .before .before .before .at .given .1)
-
-enum-told-2 : tie.Need-enum-told-2
-enum-told-2 c = search needs
-
-enum-told-3 : tie.Need-enum-told-3
-enum-told-3 c = search needs
-
-enum-told-4 : tie.Need-enum-told-4
-enum-told-4 c = search needs
-
-enum-told-5 : tie.Need-enum-told-5
-enum-told-5 c = search needs
-
-enum-told-6 : tie.Need-enum-told-6
-enum-told-6 c = search needs
-
-enum-told-7 : tie.Need-enum-told-7
-enum-told-7 c = search needs
-
-same-length : tie.Need-same-length
-same-length c = search needs
 
 returns : tie.Need-returns
 returns c = let w = grown-added _ _ _ _ _ _ (c .before .before .before .before .before .before .before .before .before .before .before .free-row .ensures) _ (c .before .before .before .before .before .before .before .before .before .at .given .1) _ (c .before .before .before .before .before .before .region-fault .ensures) (c .before .before .before .before .enum-told .given .1) in record { answer = w .answer; table = c .before .before .put-row .ensures ∙ w .table }
 
-same-length-2 : tie.Need-same-length-2
-same-length-2 c = search needs
-
 returns-2 : tie.Need-returns-2
 returns-2 c = grown-refused _ _ _ _ _ _ (c .before .before .before .before .before .before .before .free-row .ensures) _ (c .before .before .before .before .before .at .given .1) _ (sym (c .enum-told2 .given .1) ∙ c .before .before .region-fault .ensures) (λ e. let z : _≡_ {A = ℕ} 0 1 = cc in omega arith)
-
-same-length-3 : tie.Need-same-length-3
-same-length-3 c = search needs
 
 returns-3 : tie.Need-returns-3
 returns-3 c = grown-refused _ _ _ _ _ _ (c .before .before .before .before .before .before .before .free-row .ensures) _ (c .before .before .before .before .before .at .given .1) _ (sym (c .enum-told3 .given .1) ∙ c .before .before .region-fault .ensures) (λ e. let z : _≡_ {A = ℕ} 0 1 = cc in omega arith)
 
-same-length-4 : tie.Need-same-length-4
-same-length-4 c = search needs
-
 returns-4 : tie.Need-returns-4
 returns-4 c = grown-refused _ _ _ _ _ _ (c .before .before .before .before .before .before .before .free-row .ensures) _ (c .before .before .before .before .before .at .given .1) _ (sym (c .enum-told4 .given .1) ∙ c .before .before .region-fault .ensures) (λ e. let z : _≡_ {A = ℕ} 0 1 = cc in omega arith)
-
-same-length-5 : tie.Need-same-length-5
-same-length-5 c = search needs
 
 returns-5 : tie.Need-returns-5
 returns-5 c = grown-refused _ _ _ _ _ _ (c .before .before .before .before .before .before .before .free-row .ensures) _ (c .before .before .before .before .before .at .given .1) _ (sym (c .enum-told5 .given .1) ∙ c .before .before .region-fault .ensures) (λ e. let z : _≡_ {A = ℕ} 0 1 = cc in omega arith)
 
-same-length-6 : tie.Need-same-length-6
-same-length-6 c = search needs
-
 returns-6 : tie.Need-returns-6
 returns-6 c = grown-refused _ _ _ _ _ _ (c .before .before .before .before .before .before .before .free-row .ensures) _ (c .before .before .before .before .before .at .given .1) _ (sym (c .enum-told6 .given .1) ∙ c .before .before .region-fault .ensures) (λ e. let z : _≡_ {A = ℕ} 0 1 = cc in omega arith)
-
-same-length-7 : tie.Need-same-length-7
-same-length-7 c = search needs
 
 returns-7 : tie.Need-returns-7
 returns-7 c = grown-full _ _ _ _ _ _ (c .before .before .free-row .ensures) (c .enum-told7 .given .1)
@@ -86,28 +35,28 @@ pub add-region-spec : {M : Type 1} → statement M
 add-region-spec =
     tie.close
     (tie.spec
-    free-row-requires
-    enum-known-at
-    region-fault-requires
-    enum-told
+    (λ c κs. search needs)
+    (λ c. search needs)
+    (λ c κs. search needs)
+    (λ c. search needs)
     put-row-requires
-    enum-told-2
-    enum-told-3
-    enum-told-4
-    enum-told-5
-    enum-told-6
-    enum-told-7
-    same-length
+    (λ c. search needs)
+    (λ c. search needs)
+    (λ c. search needs)
+    (λ c. search needs)
+    (λ c. search needs)
+    (λ c. search needs)
+    (λ c. search needs)
     returns
-    same-length-2
+    (λ c. search needs)
     returns-2
-    same-length-3
+    (λ c. search needs)
     returns-3
-    same-length-4
+    (λ c. search needs)
     returns-4
-    same-length-5
+    (λ c. search needs)
     returns-5
-    same-length-6
+    (λ c. search needs)
     returns-6
-    same-length-7
+    (λ c. search needs)
     returns-7)

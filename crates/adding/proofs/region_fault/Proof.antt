@@ -9,12 +9,6 @@ use Rattle.adding.proofs.region_fault.Tie as tie
 returns : tie.Need-returns
 returns c = sym (fault-empty _ _ _ _ _ (c .if1 .taken))
 
-sub-if2 : tie.Need-sub-if2
-sub-if2 c = search needs
-
-sub-if2-2 : tie.Need-sub-if2-2
-sub-if2-2 c = search needs
-
 returns-2 : tie.Need-returns-2
 returns-2 c = sym (fault-top _ _ _ _ _ (c .before .if1 .left) (omega arith))
 
@@ -23,9 +17,6 @@ returns-3 c = sym (fault-slice _ _ _ _ _ (c .before .before .if1 .left) (omega a
 
 returns-4 : tie.Need-returns-4
 returns-4 c = sym (fault-slice _ _ _ _ _ (c .before .before .before .if1 .left) (omega arith) (omega arith))
-
-shares-any-requires : tie.Need-shares-any-requires
-shares-any-requires c κs = search needs
 
 returns-5 : tie.Need-returns-5
 returns-5 c = sym (fault-overlap _ _ _ _ _ (c .before .before .before .before .before .if1 .left) (omega arith) (omega arith) _ (c .before .shares-any .ensures) (c .if5 .taken))
@@ -38,11 +29,11 @@ region-fault-spec =
     tie.close
     (tie.spec
     returns
-    sub-if2
-    sub-if2-2
+    (λ c. search needs)
+    (λ c. search needs)
     returns-2
     returns-3
     returns-4
-    shares-any-requires
+    (λ c κs. search needs)
     returns-5
     returns-6)

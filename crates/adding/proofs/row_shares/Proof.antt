@@ -13,9 +13,6 @@ returns c = let a = c .before .args in sym (apart-none (row (a .rbase) (a .rlen)
 returns-2 : tie.Need-returns-2
 returns-2 c = let a = c .before .before .args in sym (apart-free (row (a .rbase) (a .rlen) 0) (a .base) (a .len) (c .if2 .taken))
 
-sub-if4 : tie.Need-sub-if4
-sub-if4 c = search needs
-
 returns-3 : tie.Need-returns-3
 returns-3 c = let a = c .before .before .before .before .args in sym (shares-high (row (a .rbase) (a .rlen) 0) (a .base) (a .len) (omega arith) (omega arith) (omega arith))
 
@@ -30,4 +27,4 @@ returns-6 c = let a = c .before .before .before .before .args in sym (apart-low 
 
 pub row-shares-spec : {M : Type 1} → statement M
 row-shares-spec =
-    tie.close (tie.spec returns returns-2 sub-if4 returns-3 returns-4 returns-5 returns-6)
+    tie.close (tie.spec returns returns-2 (λ c. search needs) returns-3 returns-4 returns-5 returns-6)

@@ -20,39 +20,18 @@ Inv-loop regions mem head c₀ n₀ c n = n + length (walkOf regions mem c) ≡ 
 abbrev μ-loop : tie.MeasureT-loop
 μ-loop regions mem head c₀ n₀ c n = c .ttl
 
--- src/main.rt:18:9
-new-requires : tie.Need-new-requires Inv-loop μ-loop
-new-requires c κs = search needs
-
--- src/main.rt:20:5
 loop-holds : tie.Need-loop-holds Inv-loop μ-loop
 loop-holds c = omega (arith, ap (λ (x : DescriptorChain). length (walkOf (c .before .before .before .args .regions .now) (c .before .before .before .args .mem .now) x)) (c .new .ensures))
 
--- src/main.rt:21:15
-next-requires : tie.Need-next-requires Inv-loop μ-loop
-next-requires c κs = search needs
-
--- src/main.rt:22:27
-enum-known-rest : tie.Need-enum-known-rest Inv-loop μ-loop
-enum-known-rest c = search needs
-
--- src/main.rt:24:17
 add-n : tie.Need-add-n Inv-loop μ-loop
 add-n c = omega (arith, ap length (walk-next _ _ _ _ _ (sym (c .before .before .before .next .ensures) ∙ c .before .rest .given .1)), walkOf-short (c .before .before .before .before .before .before .before .before .args .regions .now) (c .before .before .before .before .before .before .before .before .args .mem .now) (chainAt 0 8 (c .before .before .before .before .before .before .before .before .args .head)))
 
--- src/main.rt:20:5
 loop-less : tie.Need-loop-less Inv-loop μ-loop
 loop-less c = step-falls _ _ _ _ _ (sym (c .before .before .before .next .ensures) ∙ c .before .rest .given .1) .ration
 
--- src/main.rt:20:5
 loop-again : tie.Need-loop-again Inv-loop μ-loop
 loop-again c = omega (arith, ap length (walk-next _ _ _ _ _ (sym (c .before .before .before .next .ensures) ∙ c .before .rest .given .1)))
 
--- src/main.rt:27:17
-enum-told : tie.Need-enum-told Inv-loop μ-loop
-enum-told c = search needs
-
--- src/main.rt:15:1
 returns : tie.Need-returns Inv-loop μ-loop
 returns c = omega (arith, ap length (walk-end _ _ _ (sym (c .before .before .next .ensures) ∙ c .enum-told .given .1)))
 
@@ -62,12 +41,12 @@ count-spec =
     (tie.spec
     Inv-loop
     μ-loop
-    new-requires
+    (λ c κs. search needs)
     loop-holds
-    next-requires
-    enum-known-rest
+    (λ c κs. search needs)
+    (λ c. search needs)
     add-n
     loop-less
     loop-again
-    enum-told
+    (λ c. search needs)
     returns)

@@ -3,21 +3,6 @@ use borrow.Author.Needs.{needs}
 use Rattle.lent_calls.proofs.asked_after.Statement.{statement}
 use Rattle.lent_calls.proofs.asked_after.Tie as tie
 
-enum-known-x : tie.Need-enum-known-x
-enum-known-x c = search needs
-
-needs-notification-requires : tie.Need-needs-notification-requires
-needs-notification-requires c κs = search needs
-
-after-put-requires : tie.Need-after-put-requires
-after-put-requires c κs = search needs
-
-enum-known-x-2 : tie.Need-enum-known-x-2
-enum-known-x-2 c = search needs
-
-error-code-requires : tie.Need-error-code-requires
-error-code-requires c κs = search needs
-
 returns : tie.Need-returns
 returns c = rw (c .before .before .before .x .given .1, c .after-put .ensures, c .before .needs-notification .ensures)
 
@@ -28,10 +13,10 @@ pub asked-after-spec : {M : Type 1} → statement M
 asked-after-spec =
     tie.close
     (tie.spec
-    enum-known-x
-    needs-notification-requires
-    after-put-requires
-    enum-known-x-2
-    error-code-requires
+    (λ c. search needs)
+    (λ c κs. search needs)
+    (λ c κs. search needs)
+    (λ c. search needs)
+    (λ c κs. search needs)
     returns
     returns-2)

@@ -7,14 +7,8 @@ use Rattle.lent_calls.proofs.new.Tie as tie
 returns : tie.Need-returns
 returns c = rw (lt-leb _ _ (c .if1 .taken))
 
-new-requires : tie.Need-new-requires
-new-requires c κs = search needs
-
-of-configured-requires : tie.Need-of-configured-requires
-of-configured-requires c κs = search needs
-
 returns-2 : tie.Need-returns-2
 returns-2 c = rw (le-leb _ _ (c .before .before .if1 .left), c .of-configured .ensures, c .before .new .ensures)
 
 pub new-spec : {M : Type 1} → statement M
-new-spec = tie.close (tie.spec returns new-requires of-configured-requires returns-2)
+new-spec = tie.close (tie.spec returns (λ c κs. search needs) (λ c κs. search needs) returns-2)

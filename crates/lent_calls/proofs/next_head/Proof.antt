@@ -3,18 +3,6 @@ use borrow.Author.Needs.{needs}
 use Rattle.lent_calls.proofs.next_head.Statement.{statement}
 use Rattle.lent_calls.proofs.next_head.Tie as tie
 
-enum-known-x : tie.Need-enum-known-x
-enum-known-x c = search needs
-
-next-head-requires : tie.Need-next-head-requires
-next-head-requires c κs = search needs
-
-of-taken-requires : tie.Need-of-taken-requires
-of-taken-requires c κs = search needs
-
-enum-known-x-2 : tie.Need-enum-known-x-2
-enum-known-x-2 c = search needs
-
 returns : tie.Need-returns
 returns c = rw (c .before .before .before .x .given .1, c .of-taken .ensures, c .before .next-head .ensures)
 
@@ -24,4 +12,4 @@ returns-2 c = rw (c .before .x2 .given .1)
 pub next-head-spec : {M : Type 1} → statement M
 next-head-spec =
     tie.close
-    (tie.spec enum-known-x next-head-requires of-taken-requires enum-known-x-2 returns returns-2)
+    (tie.spec (λ c. search needs) (λ c κs. search needs) (λ c κs. search needs) (λ c. search needs) returns returns-2)

@@ -7,21 +7,6 @@ use borrow.Author.Needs.{needs}
 use Rattle.lent_calls.proofs.put_and_ask.Statement.{statement}
 use Rattle.lent_calls.proofs.put_and_ask.Tie as tie
 
-enum-known-x : tie.Need-enum-known-x
-enum-known-x c = search needs
-
-add-used-requires : tie.Need-add-used-requires
-add-used-requires c κs = search needs
-
-asked-after-requires : tie.Need-asked-after-requires
-asked-after-requires c κs = search needs
-
-enum-known-x-2 : tie.Need-enum-known-x-2
-enum-known-x-2 c = search needs
-
-same-length : tie.Need-same-length
-same-length c = search needs
-
 returns : tie.Need-returns
 returns c = (rw (c .before .before .before .before .before .before .before .x .given .1) (c .asked-after .ensures ∙ ap (λ (k : List ℕ). askedAfter (c .before .before .before .before .before .before .before .before .before .before .before .args .regions .now) k (c .before .before .before .before .add-used .result)) (c .before .before .before .before .add-used .ensures .mem) ∙ ap (askedAfter (c .before .before .before .before .before .before .before .before .before .before .before .args .regions .now) _) (c .before .before .before .before .add-used .ensures .answer)), rw (c .before .before .before .before .before .before .before .x .given .1, c .before .before .before .before .add-used .ensures .mem))
 
@@ -32,10 +17,10 @@ pub put-and-ask-spec : {M : Type 1} → statement M
 put-and-ask-spec =
     tie.close
     (tie.spec
-    enum-known-x
-    add-used-requires
-    asked-after-requires
-    enum-known-x-2
-    same-length
+    (λ c. search needs)
+    (λ c κs. search needs)
+    (λ c κs. search needs)
+    (λ c. search needs)
+    (λ c. search needs)
     returns
     returns-2)

@@ -3,15 +3,6 @@ use borrow.Author.Needs.{needs}
 use Rattle.lent_calls.proofs.reset.Statement.{statement}
 use Rattle.lent_calls.proofs.reset.Tie as tie
 
-enum-known-x : tie.Need-enum-known-x
-enum-known-x c = search needs
-
-reset-requires : tie.Need-reset-requires
-reset-requires c κs = search needs
-
-enum-known-x-2 : tie.Need-enum-known-x-2
-enum-known-x-2 c = search needs
-
 returns : tie.Need-returns
 returns c = rw (c .before .before .x .given .1, c .reset .ensures)
 
@@ -19,4 +10,4 @@ returns-2 : tie.Need-returns-2
 returns-2 c = rw (c .before .x2 .given .1)
 
 pub reset-spec : {M : Type 1} → statement M
-reset-spec = tie.close (tie.spec enum-known-x reset-requires enum-known-x-2 returns returns-2)
+reset-spec = tie.close (tie.spec (λ c. search needs) (λ c κs. search needs) (λ c. search needs) returns returns-2)

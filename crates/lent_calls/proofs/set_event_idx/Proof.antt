@@ -3,15 +3,6 @@ use borrow.Author.Needs.{needs}
 use Rattle.lent_calls.proofs.set_event_idx.Statement.{statement}
 use Rattle.lent_calls.proofs.set_event_idx.Tie as tie
 
-enum-known-x : tie.Need-enum-known-x
-enum-known-x c = search needs
-
-set-event-idx-requires : tie.Need-set-event-idx-requires
-set-event-idx-requires c κs = search needs
-
-enum-known-x-2 : tie.Need-enum-known-x-2
-enum-known-x-2 c = search needs
-
 returns : tie.Need-returns
 returns c = rw (c .before .before .x .given .1, c .set-event-idx .ensures)
 
@@ -20,4 +11,4 @@ returns-2 c = rw (c .before .x2 .given .1)
 
 pub set-event-idx-spec : {M : Type 1} → statement M
 set-event-idx-spec =
-    tie.close (tie.spec enum-known-x set-event-idx-requires enum-known-x-2 returns returns-2)
+    tie.close (tie.spec (λ c. search needs) (λ c κs. search needs) (λ c. search needs) returns returns-2)

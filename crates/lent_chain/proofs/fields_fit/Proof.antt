@@ -5,30 +5,6 @@ use borrow.Author.Needs.{needs}
 use Rattle.lent_chain.proofs.fields_fit.Statement.{statement}
 use Rattle.lent_chain.proofs.fields_fit.Tie as tie
 
-shared-slice-read-larger-of : tie.Need-shared-slice-read-larger-of
-shared-slice-read-larger-of c = search needs
-
-shared-slice-read-larger-of-2 : tie.Need-shared-slice-read-larger-of-2
-shared-slice-read-larger-of-2 c = search needs
-
-larger-of-requires : tie.Need-larger-of-requires
-larger-of-requires c κs = search needs
-
-shared-slice-read-larger-of-3 : tie.Need-shared-slice-read-larger-of-3
-shared-slice-read-larger-of-3 c = search needs
-
-shared-slice-read-larger-of-4 : tie.Need-shared-slice-read-larger-of-4
-shared-slice-read-larger-of-4 c = search needs
-
-larger-of-requires-2 : tie.Need-larger-of-requires-2
-larger-of-requires-2 c κs = search needs
-
-larger-of-requires-3 : tie.Need-larger-of-requires-3
-larger-of-requires-3 c κs = search needs
-
-shared-slice-read-result : tie.Need-shared-slice-read-result
-shared-slice-read-result c = search needs
-
 returns : tie.Need-returns
 returns c = fits-sum _ (let h = c .before .if1 .taken in let f = c .before .before .larger-of3 .ensures in let g = c .before .before .before .larger-of2 .ensures in let i = c .before .before .before .before .before .before .larger-of .ensures in omega arith)
 
@@ -39,13 +15,13 @@ pub fields-fit-spec : {M : Type 1} → statement M
 fields-fit-spec =
     tie.close
     (tie.spec
-    shared-slice-read-larger-of
-    shared-slice-read-larger-of-2
-    larger-of-requires
-    shared-slice-read-larger-of-3
-    shared-slice-read-larger-of-4
-    larger-of-requires-2
-    larger-of-requires-3
-    shared-slice-read-result
+    (λ c. search needs)
+    (λ c. search needs)
+    (λ c κs. search needs)
+    (λ c. search needs)
+    (λ c. search needs)
+    (λ c κs. search needs)
+    (λ c κs. search needs)
+    (λ c. search needs)
     returns
     returns-2)

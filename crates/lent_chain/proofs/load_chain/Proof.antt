@@ -10,9 +10,6 @@ use Rattle.lent_chain.proofs.load_chain.Tie as tie
 returns : tie.Need-returns
 returns c = held-short _ (omega arith)
 
-fields-fit-requires : tie.Need-fields-fit-requires
-fields-fit-requires c κs = search needs
-
 returns-2 : tie.Need-returns-2
 returns-2 c = held-unfit _ (omega arith) _ (c .before .fields-fit .ensures) (not-true _ (c .if2 .taken))
 
@@ -24,4 +21,4 @@ returns-3 c = held-chain _ (omega arith) _ (c .before .before .fields-fit .ensur
 
 pub load-chain-spec : {M : Type 1} → statement M
 load-chain-spec =
-    tie.close (tie.spec returns fields-fit-requires returns-2 chain-in-requires returns-3)
+    tie.close (tie.spec returns (λ c κs. search needs) returns-2 chain-in-requires returns-3)

@@ -7,21 +7,6 @@ use borrow.Author.Needs.{needs}
 use Rattle.lent_chain.proofs.next_readable.Statement.{statement}
 use Rattle.lent_chain.proofs.next_readable.Tie as tie
 
-enum-known-x : tie.Need-enum-known-x
-enum-known-x c = search needs
-
-next-readable-requires : tie.Need-next-readable-requires
-next-readable-requires c κs = search needs
-
-stepped-requires : tie.Need-stepped-requires
-stepped-requires c κs = search needs
-
-enum-known-x-2 : tie.Need-enum-known-x-2
-enum-known-x-2 c = search needs
-
-same-length : tie.Need-same-length
-same-length c = search needs
-
 returns : tie.Need-returns
 returns c = (rw (c .before .before .before .before .before .before .x .given .1) (c .before .before .stepped .ensures .0 ∙ ap (wentStep _) (c .before .before .before .before .next-readable .ensures .is)), rw (c .before .before .before .before .before .before .x .given .1) (c .before .before .stepped .ensures .1 ∙ ap (stepArray _) (c .before .before .before .before .next-readable .ensures .is)))
 
@@ -32,10 +17,10 @@ pub next-readable-spec : {M : Type 1} → statement M
 next-readable-spec =
     tie.close
     (tie.spec
-    enum-known-x
-    next-readable-requires
-    stepped-requires
-    enum-known-x-2
-    same-length
+    (λ c. search needs)
+    (λ c κs. search needs)
+    (λ c κs. search needs)
+    (λ c. search needs)
+    (λ c. search needs)
     returns
     returns-2)

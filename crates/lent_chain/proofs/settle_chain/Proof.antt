@@ -4,18 +4,6 @@ use borrow.Author.Needs.{needs}
 use Rattle.lent_chain.proofs.settle_chain.Statement.{statement}
 use Rattle.lent_chain.proofs.settle_chain.Tie as tie
 
-enum-known-x : tie.Need-enum-known-x
-enum-known-x c = search needs
-
-keep-chain-requires : tie.Need-keep-chain-requires
-keep-chain-requires c κs = search needs
-
-enum-known-x-2 : tie.Need-enum-known-x-2
-enum-known-x-2 c = search needs
-
-same-length : tie.Need-same-length
-same-length c = search needs
-
 returns : tie.Need-returns
 returns c = (rw (c .before .before .before .before .before .before .x .given .1), rw (c .before .before .before .before .before .before .x .given .1, le-leb _ _ (c .before .before .before .before .if1 .taken)) (c .before .before .keep-chain .ensures))
 
@@ -29,10 +17,10 @@ pub settle-chain-spec : {M : Type 1} → statement M
 settle-chain-spec =
     tie.close
     (tie.spec
-    enum-known-x
-    keep-chain-requires
-    enum-known-x-2
-    same-length
+    (λ c. search needs)
+    (λ c κs. search needs)
+    (λ c. search needs)
+    (λ c. search needs)
     returns
     returns-2
     returns-3)

@@ -7,15 +7,6 @@ use Rattle.lent_chain.proofs.start.Tie as tie
 returns : tie.Need-returns
 returns c = rw (lt-leb _ _ (c .if1 .taken))
 
-enum-known-x : tie.Need-enum-known-x
-enum-known-x c = search needs
-
-new-requires : tie.Need-new-requires
-new-requires c κs = search needs
-
-enum-known-x-2 : tie.Need-enum-known-x-2
-enum-known-x-2 c = search needs
-
 returns-2 : tie.Need-returns-2
 returns-2 c = rw (le-leb _ _ (c .before .before .before .before .if1 .left), c .before .before .x .given .1, c .new .ensures)
 
@@ -24,4 +15,4 @@ returns-3 c = rw (le-leb _ _ (c .before .before .before .if1 .left), c .before .
 
 pub start-spec : {M : Type 1} → statement M
 start-spec =
-    tie.close (tie.spec returns enum-known-x new-requires enum-known-x-2 returns-2 returns-3)
+    tie.close (tie.spec returns (λ c. search needs) (λ c κs. search needs) (λ c. search needs) returns-2 returns-3)

@@ -4,23 +4,11 @@ use borrow.Author.Needs.{needs}
 use Rattle.lent_chain.proofs.stepped.Statement.{statement}
 use Rattle.lent_chain.proofs.stepped.Tie as tie
 
-enum-known-x : tie.Need-enum-known-x
-enum-known-x c = search needs
-
 returns : tie.Need-returns
 returns c = (rw (c .before .before .x .given .1, lt-leb _ _ (c .if1 .taken)), rw (c .before .before .x .given .1, lt-leb _ _ (c .if1 .taken)))
 
-put-triple-requires : tie.Need-put-triple-requires
-put-triple-requires c κs = search needs
-
-enum-told : tie.Need-enum-told
-enum-told c = search needs
-
 returns-2 : tie.Need-returns-2
 returns-2 c = (rw (c .before .enum-told .given .1, lt-leb _ _ (c .if2 .taken)), rw (c .before .enum-told .given .1))
-
-same-length : tie.Need-same-length
-same-length c = search needs
 
 returns-3 : tie.Need-returns-3
 returns-3 c = (rw (c .before .before .before .before .before .before .x .given .1, le-leb _ _ (c .before .before .before .before .if1 .left)), rw (c .before .before .before .before .before .before .x .given .1, le-leb _ _ (c .before .before .before .before .if1 .left)) (c .before .before .put-triple .ensures))
@@ -32,11 +20,11 @@ pub stepped-spec : {M : Type 1} → statement M
 stepped-spec =
     tie.close
     (tie.spec
-    enum-known-x
+    (λ c. search needs)
     returns
-    put-triple-requires
-    enum-told
+    (λ c κs. search needs)
+    (λ c. search needs)
     returns-2
-    same-length
+    (λ c. search needs)
     returns-3
     returns-4)

@@ -10,18 +10,6 @@ returns c = take-short _ _ _ _ _ _ (c .if1 .taken)
 returns-2 : tie.Need-returns-2
 returns-2 c = take-no-room _ _ _ _ _ _ (c .before .if1 .left) (c .if2 .taken)
 
-enum-known-x : tie.Need-enum-known-x
-enum-known-x c = search needs
-
-next-head-requires : tie.Need-next-head-requires
-next-head-requires c κs = search needs
-
-of-head-requires : tie.Need-of-head-requires
-of-head-requires c κs = search needs
-
-enum-known-x-2 : tie.Need-enum-known-x-2
-enum-known-x-2 c = search needs
-
 returns-3 : tie.Need-returns-3
 returns-3 c = take-on _ _ _ _ _ _ (c .before .before .before .before .before .before .if1 .left) (c .before .before .before .before .before .if2 .left) _ (rw (c .before .before .before .x .given .1, c .of-head .ensures, c .before .next-head .ensures))
 
@@ -34,9 +22,9 @@ take-spec =
     (tie.spec
     returns
     returns-2
-    enum-known-x
-    next-head-requires
-    of-head-requires
-    enum-known-x-2
+    (λ c. search needs)
+    (λ c κs. search needs)
+    (λ c κs. search needs)
+    (λ c. search needs)
     returns-3
     returns-4)

@@ -7,14 +7,8 @@ use Rattle.lent_chain.proofs.walk_chain.Tie as tie
 returns : tie.Need-returns
 returns c = (rw (lt-leb _ _ (c .if1 .taken)), rw (lt-leb _ _ (c .if1 .taken)))
 
-walk-into-requires : tie.Need-walk-into-requires
-walk-into-requires c κs = search needs
-
-same-length : tie.Need-same-length
-same-length c = search needs
-
 returns-2 : tie.Need-returns-2
 returns-2 c = (rw (le-leb _ _ (c .before .before .before .before .before .if1 .left), c .before .before .before .walk-into .ensures .count, c .before .before .before .walk-into .ensures .chain), rw (le-leb _ _ (c .before .before .before .before .before .if1 .left)) (c .before .before .before .walk-into .ensures .array))
 
 pub walk-chain-spec : {M : Type 1} → statement M
-walk-chain-spec = tie.close (tie.spec returns walk-into-requires same-length returns-2)
+walk-chain-spec = tie.close (tie.spec returns (λ c κs. search needs) (λ c. search needs) returns-2)

@@ -3,18 +3,6 @@ use borrow.Author.Needs.{needs}
 use Rattle.lent_chain.proofs.walk_held.Statement.{statement}
 use Rattle.lent_chain.proofs.walk_held.Tie as tie
 
-enum-known-x : tie.Need-enum-known-x
-enum-known-x c = search needs
-
-walk-chain-requires : tie.Need-walk-chain-requires
-walk-chain-requires c κs = search needs
-
-enum-known-x-2 : tie.Need-enum-known-x-2
-enum-known-x-2 c = search needs
-
-same-length : tie.Need-same-length
-same-length c = search needs
-
 returns : tie.Need-returns
 returns c = (rw (c .before .before .before .before .before .x .given .1) (c .before .before .walk-chain .ensures .0), rw (c .before .before .before .before .before .x .given .1) (c .before .before .walk-chain .ensures .1))
 
@@ -24,4 +12,4 @@ returns-2 c = (rw (c .before .x2 .given .1), rw (c .before .x2 .given .1))
 pub walk-held-spec : {M : Type 1} → statement M
 walk-held-spec =
     tie.close
-    (tie.spec enum-known-x walk-chain-requires enum-known-x-2 same-length returns returns-2)
+    (tie.spec (λ c. search needs) (λ c κs. search needs) (λ c. search needs) (λ c. search needs) returns returns-2)

@@ -16,12 +16,6 @@ abbrev μ-loop : tie.MeasureT-loop
 loop-holds : tie.Need-loop-holds Inv-loop μ-loop
 loop-holds c = going-start _ _ _ _
 
-next-requires : tie.Need-next-requires Inv-loop μ-loop
-next-requires c κs = search needs
-
-enum-known-d : tie.Need-enum-known-d Inv-loop μ-loop
-enum-known-d c = search needs
-
 put-triple-requires : tie.Need-put-triple-requires Inv-loop μ-loop
 put-triple-requires c κs = let g = c .before .before .before .before .before .before .loop .inv .space in let h = c .before .before .before .before .before .before .loop .inv .same in omega arith
 
@@ -31,17 +25,8 @@ add-count c = let g = c .before .before .before .before .before .before .before 
 add-at : tie.Need-add-at Inv-loop μ-loop
 add-at c = let g = c .before .before .before .before .before .before .before .before .before .loop .inv .space in omega arith
 
-sub-left : tie.Need-sub-left Inv-loop μ-loop
-sub-left c = search needs
-
-loop-less : tie.Need-loop-less Inv-loop μ-loop
-loop-less c = search needs
-
 loop-again : tie.Need-loop-again Inv-loop μ-loop
 loop-again c = going-next _ _ _ _ _ _ _ _ _ (c .before .before .before .before .before .before .before .before .before .loop .inv) _ _ (sym (c .before .before .before .before .before .before .before .next .ensures) ∙ (c .before .before .before .before .before .d .given .1)) (omega arith) _ (c .before .before .put-triple .ensures)
-
-enum-told : tie.Need-enum-told Inv-loop μ-loop
-enum-told c = search needs
 
 same-length : tie.Need-same-length Inv-loop μ-loop
 same-length c = c .before .before .before .before .loop .inv .same
@@ -62,15 +47,15 @@ walk-into-spec =
     Inv-loop
     μ-loop
     loop-holds
-    next-requires
-    enum-known-d
+    (λ c κs. search needs)
+    (λ c. search needs)
     put-triple-requires
     add-count
     add-at
-    sub-left
-    loop-less
+    (λ c. search needs)
+    (λ c. search needs)
     loop-again
-    enum-told
+    (λ c. search needs)
     same-length
     returns
     same-length-2

@@ -7,21 +7,6 @@ use borrow.Author.Needs.{needs}
 use Rattle.lent_chain.proofs.walk_taken.Statement.{statement}
 use Rattle.lent_chain.proofs.walk_taken.Tie as tie
 
-enum-known-x : tie.Need-enum-known-x
-enum-known-x c = search needs
-
-new-requires : tie.Need-new-requires
-new-requires c κs = search needs
-
-walk-chain-requires : tie.Need-walk-chain-requires
-walk-chain-requires c κs = search needs
-
-enum-known-x-2 : tie.Need-enum-known-x-2
-enum-known-x-2 c = search needs
-
-same-length : tie.Need-same-length
-same-length c = search needs
-
 returns : tie.Need-returns
 returns c = (rw (c .before .before .before .before .before .before .x .given .1) (c .before .before .walk-chain .ensures .0 ∙ ap (wentWalk (c .before .before .before .before .before .before .before .before .before .before .before .args .regions .now) (c .before .before .before .before .before .before .before .before .before .before .before .args .mem .now) (c .before .before .before .before .before .before .before .before .before .before .before .args .out .now)) (c .before .before .before .before .new .ensures)), rw (c .before .before .before .before .before .before .x .given .1) (c .before .before .walk-chain .ensures .1 ∙ ap (walkArray (c .before .before .before .before .before .before .before .before .before .before .before .args .regions .now) (c .before .before .before .before .before .before .before .before .before .before .before .args .mem .now) (c .before .before .before .before .before .before .before .before .before .before .before .args .out .now)) (c .before .before .before .before .new .ensures)))
 
@@ -32,10 +17,10 @@ pub walk-taken-spec : {M : Type 1} → statement M
 walk-taken-spec =
     tie.close
     (tie.spec
-    enum-known-x
-    new-requires
-    walk-chain-requires
-    enum-known-x-2
-    same-length
+    (λ c. search needs)
+    (λ c κs. search needs)
+    (λ c κs. search needs)
+    (λ c. search needs)
+    (λ c. search needs)
     returns
     returns-2)

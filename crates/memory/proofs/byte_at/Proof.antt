@@ -4,17 +4,8 @@ use Rattle.regions.specs.Table.{spot-found, spot-room}
 use Rattle.memory.proofs.byte_at.Statement.{statement}
 use Rattle.memory.proofs.byte_at.Tie as tie
 
-find-requires : tie.Need-find-requires
-find-requires c κs = search needs
-
-enum-known-i : tie.Need-enum-known-i
-enum-known-i c = search needs
-
 shared-slice-read-result : tie.Need-shared-slice-read-result
 shared-slice-read-result c = spot-room _ _ _ _ (spot-found _ _ _ _ _ (c .before .before .before .before .find .ensures) (c .before .before .i .given .1))
-
-enum-told : tie.Need-enum-told
-enum-told c = search needs
 
 returns : tie.Need-returns
 returns c = rw (spot-found _ _ _ _ _ (c .before .before .before .before .find .ensures) (c .before .before .i .given .1))
@@ -25,4 +16,4 @@ returns-2 c = rw (spot-found _ _ _ _ _ (c .before .before .find .ensures) (c .en
 pub byte-at-spec : {M : Type 1} → statement M
 byte-at-spec =
     tie.close
-    (tie.spec find-requires enum-known-i shared-slice-read-result enum-told returns returns-2)
+    (tie.spec (λ c κs. search needs) (λ c. search needs) shared-slice-read-result (λ c. search needs) returns returns-2)

@@ -5,11 +5,8 @@ use Rattle.memory.specs.Access.{readable-is}
 use Rattle.memory.proofs.can_read.Statement.{statement}
 use Rattle.memory.proofs.can_read.Tie as tie
 
-in-memory-requires : tie.Need-in-memory-requires
-in-memory-requires c κs = search needs
-
 returns : tie.Need-returns
 returns c = c .in-memory .ensures ∙ sym (readable-is _ _ _ _)
 
 pub can-read-spec : {M : Type 1} → statement M
-can-read-spec = tie.close (tie.spec in-memory-requires returns)
+can-read-spec = tie.close (tie.spec (λ c κs. search needs) returns)

@@ -5,11 +5,8 @@ use Rattle.memory.specs.Access.{writable-is}
 use Rattle.memory.proofs.can_write.Statement.{statement}
 use Rattle.memory.proofs.can_write.Tie as tie
 
-in-memory-requires : tie.Need-in-memory-requires
-in-memory-requires c κs = search needs
-
 returns : tie.Need-returns
 returns c = c .in-memory .ensures ∙ sym (writable-is _ _ _ _)
 
 pub can-write-spec : {M : Type 1} → statement M
-can-write-spec = tie.close (tie.spec in-memory-requires returns)
+can-write-spec = tie.close (tie.spec (λ c κs. search needs) returns)

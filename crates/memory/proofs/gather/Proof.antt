@@ -21,23 +21,8 @@ loop-holds c = (search needs, refl, rw spots-none)
 add-byte-at : tie.Need-add-byte-at Inv-loop μ-loop
 add-byte-at c = let l = c .before .loop in let z : l .k < length (c .before .before .before .before .before .args .out .now) = omega arith in omega (arith, covered-top _ _ _ _ (c .before .before .before .before .before .pre) (l .k) z)
 
-byte-at-requires : tie.Need-byte-at-requires Inv-loop μ-loop
-byte-at-requires c κs = search needs
-
-slice-write-out : tie.Need-slice-write-out Inv-loop μ-loop
-slice-write-out c = search needs
-
-add-k : tie.Need-add-k Inv-loop μ-loop
-add-k c = search needs
-
-loop-less : tie.Need-loop-less Inv-loop μ-loop
-loop-less c = search needs
-
 loop-again : tie.Need-loop-again Inv-loop μ-loop
 loop-again c = let l = c .before .before .loop in let z : l .k < length (l .out) = omega arith in (search needs, search needs, fetched-next (c .before .before .before .before .before .before .args .regions .now) (c .before .before .before .before .before .before .args .mem .now) (c .before .before .before .before .before .before .args .a) (l .out) (l .k) _ z (c .byte-at .ensures) (l .inv .2))
-
-same-length : tie.Need-same-length Inv-loop μ-loop
-same-length c = search needs
 
 returns : tie.Need-returns Inv-loop μ-loop
 returns c = let l = c .before .loop in fetched-all (c .before .before .before .before .before .args .regions .now) (c .before .before .before .before .before .args .mem .now) (c .before .before .before .before .before .args .a) _ (l .k) (length (c .before .before .before .before .before .args .out .now)) (l .inv .0) (omega arith) (l .inv .1) (l .inv .2)
@@ -50,10 +35,10 @@ gather-spec =
     μ-loop
     loop-holds
     add-byte-at
-    byte-at-requires
-    slice-write-out
-    add-k
-    loop-less
+    (λ c κs. search needs)
+    (λ c. search needs)
+    (λ c. search needs)
+    (λ c. search needs)
     loop-again
-    same-length
+    (λ c. search needs)
     returns)

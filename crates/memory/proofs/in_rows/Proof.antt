@@ -9,20 +9,8 @@ use Rattle.memory.proofs.in_rows.Tie as tie
 returns : tie.Need-returns
 returns c = sym (none-covered _ _ _ _ (c .if1 .taken))
 
-sub-if2 : tie.Need-sub-if2
-sub-if2 c = search needs
-
 returns-2 : tie.Need-returns-2
 returns-2 c = sym (past-covered _ _ _ _ (omega arith) (omega arith))
 
-add-covers : tie.Need-add-covers
-add-covers c = search needs
-
-covers-requires : tie.Need-covers-requires
-covers-requires c κs = search needs
-
-returns-3 : tie.Need-returns-3
-returns-3 c = search needs
-
 pub in-rows-spec : {M : Type 1} → statement M
-in-rows-spec = tie.close (tie.spec returns sub-if2 returns-2 add-covers covers-requires returns-3)
+in-rows-spec = tie.close (tie.spec returns (λ c. search needs) returns-2 (λ c. search needs) (λ c κs. search needs) (λ c. search needs))

@@ -4,9 +4,6 @@ use borrow.Author.Needs.{needs}
 use Rattle.memory.proofs.of_code.Statement.{statement}
 use Rattle.memory.proofs.of_code.Tie as tie
 
-cast-t4 : tie.Need-cast-t4
-cast-t4 c = search needs
-
 returns : tie.Need-returns
 returns c = rw (lt-ltb _ _ (c .if1 .taken))
 
@@ -14,4 +11,4 @@ returns-2 : tie.Need-returns-2
 returns-2 c = rw (le-ltb _ _ (c .if1 .left))
 
 pub of-code-spec : {M : Type 1} → statement M
-of-code-spec = tie.close (tie.spec cast-t4 returns returns-2)
+of-code-spec = tie.close (tie.spec (λ c. search needs) returns returns-2)

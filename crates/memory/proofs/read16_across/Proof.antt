@@ -8,17 +8,11 @@ use Rattle.memory.specs.Access.{read16-refused, read16-slow, readable-to
 use Rattle.memory.proofs.read16_across.Statement.{statement}
 use Rattle.memory.proofs.read16_across.Tie as tie
 
-can-read-requires : tie.Need-can-read-requires
-can-read-requires c κs = search needs
-
 returns : tie.Need-returns
 returns c = read16-refused _ _ _ _ (c .before .can-read .ensures) (not-true _ (c .if1 .taken))
 
 add-read16-into : tie.Need-add-read16-into
 add-read16-into c = let h : c .before .before .before .before .args .addr + c .before .before .before .before .args .off < 2 ^ 64 = readable-top _ _ _ 16 _ (omega arith) (c .before .can-read .ensures) (not-false _ (c .if1 .left)) in omega arith
-
-slice-aggregate-read16-into : tie.Need-slice-aggregate-read16-into
-slice-aggregate-read16-into c = search needs
 
 read16-into-requires : tie.Need-read16-into-requires
 read16-into-requires c κs = (readable-covered _ _ _ _ _ (c .before .before .can-read .ensures) (not-false _ (c .before .if1 .left)), search needs)
@@ -30,9 +24,9 @@ pub read16-across-spec : {M : Type 1} → statement M
 read16-across-spec =
     tie.close
     (tie.spec
-    can-read-requires
+    (λ c κs. search needs)
     returns
     add-read16-into
-    slice-aggregate-read16-into
+    (λ c. search needs)
     read16-into-requires
     returns-2)

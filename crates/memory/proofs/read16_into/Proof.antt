@@ -9,14 +9,8 @@ use Rattle.memory.proofs.read16_into.Tie as tie
 gather-requires : tie.Need-gather-requires
 gather-requires c κs = rw (c .before .before .before .before .pre .1) (c .before .before .before .before .pre .0)
 
-fields-at-requires : tie.Need-fields-at-requires
-fields-at-requires c κs = search needs
-
-same-length : tie.Need-same-length
-same-length c = search needs
-
 returns : tie.Need-returns
 returns c = c .fields-at .ensures ∙ ap fieldsOf (gathered (c .before .before .before .before .before .before .before .before .before .args .regions .now) (c .before .before .before .before .before .before .before .before .before .args .mem .now) (c .before .before .before .before .before .before .before .before .before .args .a) 16 (c .before .before .before .before .before .before .before .before .before .args .out .now) _ (c .before .before .before .before .before .before .before .before .before .pre .1) (c .before .before .before .before .gather .ensures))
 
 pub read16-into-spec : {M : Type 1} → statement M
-read16-into-spec = tie.close (tie.spec gather-requires fields-at-requires same-length returns)
+read16-into-spec = tie.close (tie.spec gather-requires (λ c κs. search needs) (λ c. search needs) returns)

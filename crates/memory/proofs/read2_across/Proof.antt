@@ -9,17 +9,11 @@ use Rattle.memory.specs.Access.{read2-refused, read2-slow, readable-top,
 use Rattle.memory.proofs.read2_across.Statement.{statement}
 use Rattle.memory.proofs.read2_across.Tie as tie
 
-can-read-requires : tie.Need-can-read-requires
-can-read-requires c κs = search needs
-
 returns : tie.Need-returns
 returns c = read2-refused _ _ _ _ (c .before .can-read .ensures) (not-true _ (c .if1 .taken))
 
 add-read2-into : tie.Need-add-read2-into
 add-read2-into c = let h : c .before .before .before .before .args .addr + c .before .before .before .before .args .off < 2 ^ 64 = readable-top _ _ _ 2 _ (omega arith) (c .before .can-read .ensures) (not-false _ (c .if1 .left)) in omega arith
-
-slice-aggregate-read2-into : tie.Need-slice-aggregate-read2-into
-slice-aggregate-read2-into c = search needs
 
 read2-into-requires : tie.Need-read2-into-requires
 read2-into-requires c κs = (readable-covered _ _ _ _ _ (c .before .before .can-read .ensures) (not-false _ (c .before .if1 .left)), search needs)
@@ -31,9 +25,9 @@ pub read2-across-spec : {M : Type 1} → statement M
 read2-across-spec =
     tie.close
     (tie.spec
-    can-read-requires
+    (λ c κs. search needs)
     returns
     add-read2-into
-    slice-aggregate-read2-into
+    (λ c. search needs)
     read2-into-requires
     returns-2)

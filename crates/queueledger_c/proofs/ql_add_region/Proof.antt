@@ -5,18 +5,9 @@ use borrow.Author.Needs.{needs}
 use Rattle.queueledger_c.proofs.ql_add_region.Statement.{statement}
 use Rattle.queueledger_c.proofs.ql_add_region.Tie as tie
 
-add-region-requires : tie.Need-add-region-requires
-add-region-requires c κs = search needs
-
-adding-code-requires : tie.Need-adding-code-requires
-adding-code-requires c κs = search needs
-
-same-length : tie.Need-same-length
-same-length c = search needs
-
 returns : tie.Need-returns
 returns c = (c .adding-code .ensures ∙ ap addingCode (c .before .before .before .add-region .ensures .answer), c .before .before .before .add-region .ensures .table)
 
 pub ql-add-region-spec : {M : Type 1} → statement M
 ql-add-region-spec =
-    tie.close (tie.spec add-region-requires adding-code-requires same-length returns)
+    tie.close (tie.spec (λ c κs. search needs) (λ c κs. search needs) (λ c. search needs) returns)

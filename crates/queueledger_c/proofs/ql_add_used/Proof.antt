@@ -3,25 +3,10 @@ use borrow.Author.Needs.{needs}
 use Rattle.queueledger_c.proofs.ql_add_used.Statement.{statement}
 use Rattle.queueledger_c.proofs.ql_add_used.Tie as tie
 
-load-requires : tie.Need-load-requires
-load-requires c κs = search needs
-
-add-used-requires : tie.Need-add-used-requires
-add-used-requires c κs = search needs
-
-settle-requires : tie.Need-settle-requires
-settle-requires c κs = search needs
-
-same-length : tie.Need-same-length
-same-length c = search needs
-
-same-length-2 : tie.Need-same-length-2
-same-length-2 c = search needs
-
 returns : tie.Need-returns
 returns c = (rw (← c .before .before .before .before .before .before .before .load .ensures, ← c .before .before .before .before .before .add-used .ensures .0) (c .before .before .settle .ensures), rw (← c .before .before .before .before .before .before .before .load .ensures) (c .before .before .before .before .before .add-used .ensures .1))
 
 pub ql-add-used-spec : {M : Type 1} → statement M
 ql-add-used-spec =
     tie.close
-    (tie.spec load-requires add-used-requires settle-requires same-length same-length-2 returns)
+    (tie.spec (λ c κs. search needs) (λ c κs. search needs) (λ c κs. search needs) (λ c. search needs) (λ c. search needs) returns)

@@ -3,17 +3,8 @@ use borrow.Author.Needs.{needs}
 use Rattle.queueledger_c.proofs.ql_avail_idx.Statement.{statement}
 use Rattle.queueledger_c.proofs.ql_avail_idx.Tie as tie
 
-load-requires : tie.Need-load-requires
-load-requires c κs = search needs
-
-avail-idx-requires : tie.Need-avail-idx-requires
-avail-idx-requires c κs = search needs
-
-answer-requires : tie.Need-answer-requires
-answer-requires c κs = search needs
-
 returns : tie.Need-returns
 returns c = rw (← c .before .before .load .ensures, ← c .before .avail-idx .ensures) (c .answer .ensures)
 
 pub ql-avail-idx-spec : {M : Type 1} → statement M
-ql-avail-idx-spec = tie.close (tie.spec load-requires avail-idx-requires answer-requires returns)
+ql-avail-idx-spec = tie.close (tie.spec (λ c κs. search needs) (λ c κs. search needs) (λ c κs. search needs) returns)

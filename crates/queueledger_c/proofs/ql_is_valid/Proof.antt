@@ -3,17 +3,8 @@ use borrow.Author.Needs.{needs}
 use Rattle.queueledger_c.proofs.ql_is_valid.Statement.{statement}
 use Rattle.queueledger_c.proofs.ql_is_valid.Tie as tie
 
-load-requires : tie.Need-load-requires
-load-requires c κs = search needs
-
-is-valid-requires : tie.Need-is-valid-requires
-is-valid-requires c κs = search needs
-
-answer-requires : tie.Need-answer-requires
-answer-requires c κs = search needs
-
 returns : tie.Need-returns
 returns c = rw (← c .before .before .load .ensures, ← c .before .is-valid .ensures) (c .answer .ensures)
 
 pub ql-is-valid-spec : {M : Type 1} → statement M
-ql-is-valid-spec = tie.close (tie.spec load-requires is-valid-requires answer-requires returns)
+ql-is-valid-spec = tie.close (tie.spec (λ c κs. search needs) (λ c κs. search needs) (λ c κs. search needs) returns)

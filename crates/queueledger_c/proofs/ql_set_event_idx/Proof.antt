@@ -3,21 +3,9 @@ use borrow.Author.Needs.{needs}
 use Rattle.queueledger_c.proofs.ql_set_event_idx.Statement.{statement}
 use Rattle.queueledger_c.proofs.ql_set_event_idx.Tie as tie
 
-load-requires : tie.Need-load-requires
-load-requires c κs = search needs
-
-set-event-idx-requires : tie.Need-set-event-idx-requires
-set-event-idx-requires c κs = search needs
-
-settle-requires : tie.Need-settle-requires
-settle-requires c κs = search needs
-
-same-length : tie.Need-same-length
-same-length c = search needs
-
 returns : tie.Need-returns
 returns c = rw (← c .before .before .before .before .load .ensures, ← c .before .before .before .set-event-idx .ensures) (c .before .before .settle .ensures)
 
 pub ql-set-event-idx-spec : {M : Type 1} → statement M
 ql-set-event-idx-spec =
-    tie.close (tie.spec load-requires set-event-idx-requires settle-requires same-length returns)
+    tie.close (tie.spec (λ c κs. search needs) (λ c κs. search needs) (λ c κs. search needs) (λ c. search needs) returns)

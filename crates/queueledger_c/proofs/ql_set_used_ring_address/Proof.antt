@@ -3,22 +3,10 @@ use borrow.Author.Needs.{needs}
 use Rattle.queueledger_c.proofs.ql_set_used_ring_address.Statement.{statement}
 use Rattle.queueledger_c.proofs.ql_set_used_ring_address.Tie as tie
 
-load-requires : tie.Need-load-requires
-load-requires c κs = search needs
-
-set-used-ring-address-requires : tie.Need-set-used-ring-address-requires
-set-used-ring-address-requires c κs = search needs
-
-settle-requires : tie.Need-settle-requires
-settle-requires c κs = search needs
-
-same-length : tie.Need-same-length
-same-length c = search needs
-
 returns : tie.Need-returns
 returns c = rw (← c .before .before .before .before .load .ensures, ← c .before .before .before .set-used-ring-address .ensures) (c .before .before .settle .ensures)
 
 pub ql-set-used-ring-address-spec : {M : Type 1} → statement M
 ql-set-used-ring-address-spec =
     tie.close
-    (tie.spec load-requires set-used-ring-address-requires settle-requires same-length returns)
+    (tie.spec (λ c κs. search needs) (λ c κs. search needs) (λ c κs. search needs) (λ c. search needs) returns)

@@ -19,38 +19,14 @@ returns c = sym (none-covered _ _ _ _ (c .if1 .taken))
 loop-holds : tie.Need-loop-holds Inv-loop μ-loop
 loop-holds c = (search needs, left-start _ _ _ _ (omega arith))
 
-find-requires : tie.Need-find-requires Inv-loop μ-loop
-find-requires c κs = search needs
-
-enum-known-have : tie.Need-enum-known-have Inv-loop μ-loop
-enum-known-have c = search needs
-
 returns-2 : tie.Need-returns-2 Inv-loop μ-loop
 returns-2 c = sym (left-enough _ _ _ _ _ _ _ (c .before .before .before .before .before .before .loop .inv .1) _ _ (sym (c .before .before .before .before .find .ensures) ∙ c .before .before .have .given .1) (c .if2 .taken))
-
-sub-if3 : tie.Need-sub-if3 Inv-loop μ-loop
-sub-if3 c = search needs
 
 returns-3 : tie.Need-returns-3 Inv-loop μ-loop
 returns-3 c = sym (left-top _ _ _ _ _ _ _ (c .before .before .before .before .before .before .before .loop .inv .1) _ _ (sym (c .before .before .before .before .before .find .ensures) ∙ c .before .before .before .have .given .1) (c .before .if2 .left) (omega arith))
 
-add-a : tie.Need-add-a Inv-loop μ-loop
-add-a c = search needs
-
-sub-left : tie.Need-sub-left Inv-loop μ-loop
-sub-left c = search needs
-
-sub-steps : tie.Need-sub-steps Inv-loop μ-loop
-sub-steps c = search needs
-
-loop-less : tie.Need-loop-less Inv-loop μ-loop
-loop-less c = search needs
-
 loop-again : tie.Need-loop-again Inv-loop μ-loop
 loop-again c = (omega arith, left-next _ _ _ _ _ _ _ (c .before .before .before .before .before .before .before .loop .inv .1) _ _ (sym (c .before .before .before .before .before .find .ensures) ∙ c .before .before .before .have .given .1) (c .before .if2 .left) (c .before .before .before .before .before .before .loop-test .taken))
-
-enum-told : tie.Need-enum-told Inv-loop μ-loop
-enum-told c = search needs
 
 returns-4 : tie.Need-returns-4 Inv-loop μ-loop
 returns-4 c = sym (left-nothing _ _ _ _ _ _ _ (c .before .before .before .before .loop .inv .1) (sym (c .before .before .find .ensures) ∙ c .enum-told .given .1))
@@ -66,16 +42,16 @@ covers-spec =
     μ-loop
     returns
     loop-holds
-    find-requires
-    enum-known-have
+    (λ c κs. search needs)
+    (λ c. search needs)
     returns-2
-    sub-if3
+    (λ c. search needs)
     returns-3
-    add-a
-    sub-left
-    sub-steps
-    loop-less
+    (λ c. search needs)
+    (λ c. search needs)
+    (λ c. search needs)
+    (λ c. search needs)
     loop-again
-    enum-told
+    (λ c. search needs)
     returns-4
     returns-5)

@@ -10,23 +10,8 @@ use Rattle.regions.proofs.extent_of.Tie as tie
 returns : tie.Need-returns
 returns c = let a = c .before .args in omega (arith, extent-is (row (a .base) (a .len) (a .offset)) (a .size))
 
-sub-room : tie.Need-sub-room
-sub-room c = search needs
-
-least-requires : tie.Need-least-requires
-least-requires c κs = search needs
-
 returns-2 : tie.Need-returns-2
 returns-2 c = let a = c .before .before .before .args in omega (arith, extent-is (row (a .base) (a .len) (a .offset)) (a .size))
-
-sub-top : tie.Need-sub-top
-sub-top c = search needs
-
-sub-if3 : tie.Need-sub-if3
-sub-if3 c = search needs
-
-add-result : tie.Need-add-result
-add-result c = search needs
 
 returns-3 : tie.Need-returns-3
 returns-3 c = sym (extent-high _ _ _ (c .before .before .least .ensures) (search needs) (c .if3 .taken))
@@ -39,11 +24,11 @@ extent-of-spec =
     tie.close
     (tie.spec
     returns
-    sub-room
-    least-requires
+    (λ c. search needs)
+    (λ c κs. search needs)
     returns-2
-    sub-top
-    sub-if3
-    add-result
+    (λ c. search needs)
+    (λ c. search needs)
+    (λ c. search needs)
     returns-3
     returns-4)

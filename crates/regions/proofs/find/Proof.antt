@@ -17,58 +17,13 @@ abbrev μ-loop : tie.MeasureT-loop
 loop-holds : tie.Need-loop-holds Inv-loop μ-loop
 loop-holds c = (search needs, stretch-all _ _ _)
 
-sub-if1 : tie.Need-sub-if1 Inv-loop μ-loop
-sub-if1 c = search needs
-
 returns : tie.Need-returns Inv-loop μ-loop
 returns c = sym (c .before .before .loop .inv .1 ∙ stretch-nil _ _ _ (left-short _ _ _ (c .if1 .taken)))
-
-mul-row-from : tie.Need-mul-row-from Inv-loop μ-loop
-mul-row-from c = search needs
-
-shared-slice-read-row-from : tie.Need-shared-slice-read-row-from Inv-loop μ-loop
-shared-slice-read-row-from c = search needs
-
-add-row-from : tie.Need-add-row-from Inv-loop μ-loop
-add-row-from c = search needs
-
-mul-row-from-2 : tie.Need-mul-row-from-2 Inv-loop μ-loop
-mul-row-from-2 c = search needs
-
-shared-slice-read-row-from-2 : tie.Need-shared-slice-read-row-from-2 Inv-loop μ-loop
-shared-slice-read-row-from-2 c = search needs
-
-add-row-from-2 : tie.Need-add-row-from-2 Inv-loop μ-loop
-add-row-from-2 c = search needs
-
-mul-row-from-3 : tie.Need-mul-row-from-3 Inv-loop μ-loop
-mul-row-from-3 c = search needs
-
-shared-slice-read-row-from-3 : tie.Need-shared-slice-read-row-from-3 Inv-loop μ-loop
-shared-slice-read-row-from-3 c = search needs
-
-row-from-requires : tie.Need-row-from-requires Inv-loop μ-loop
-row-from-requires c κs = search needs
-
-enum-known-i : tie.Need-enum-known-i Inv-loop μ-loop
-enum-known-i c = search needs
 
 returns-2 : tie.Need-returns-2 Inv-loop μ-loop
 returns-2 c = let l = c .before .before .before .before .before .before .before .before .before .loop in
     let h : l .at + 3 ≤ length (c .before .before .before .before .before .before .before .before .before .before .before .args .regions .now) = omega arith in
     sym (l .inv .1 ∙ stretch-row _ _ _ _ _ (omega arith) h _ (sym (c .before .i .given .1) ∙ c .before .before .before .row-from .ensures))
-
-enum-told : tie.Need-enum-told Inv-loop μ-loop
-enum-told c = search needs
-
-add-at : tie.Need-add-at Inv-loop μ-loop
-add-at c = search needs
-
-sub-rows : tie.Need-sub-rows Inv-loop μ-loop
-sub-rows c = search needs
-
-loop-less : tie.Need-loop-less Inv-loop μ-loop
-loop-less c = search needs
 
 loop-again : tie.Need-loop-again Inv-loop μ-loop
 loop-again c = let l = c .before .before .before .before .before .before .before .before .loop in
@@ -85,22 +40,22 @@ find-spec =
     Inv-loop
     μ-loop
     loop-holds
-    sub-if1
+    (λ c. search needs)
     returns
-    mul-row-from
-    shared-slice-read-row-from
-    add-row-from
-    mul-row-from-2
-    shared-slice-read-row-from-2
-    add-row-from-2
-    mul-row-from-3
-    shared-slice-read-row-from-3
-    row-from-requires
-    enum-known-i
+    (λ c. search needs)
+    (λ c. search needs)
+    (λ c. search needs)
+    (λ c. search needs)
+    (λ c. search needs)
+    (λ c. search needs)
+    (λ c. search needs)
+    (λ c. search needs)
+    (λ c κs. search needs)
+    (λ c. search needs)
     returns-2
-    enum-told
-    add-at
-    sub-rows
-    loop-less
+    (λ c. search needs)
+    (λ c. search needs)
+    (λ c. search needs)
+    (λ c. search needs)
     loop-again
     returns-3)

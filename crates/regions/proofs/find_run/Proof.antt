@@ -16,41 +16,8 @@ abbrev μ-loop : tie.MeasureT-loop
 loop-holds : tie.Need-loop-holds Inv-loop μ-loop
 loop-holds c = (search needs, skipped-start _ _ _ _)
 
-sub-if1 : tie.Need-sub-if1 Inv-loop μ-loop
-sub-if1 c = search needs
-
 returns : tie.Need-returns Inv-loop μ-loop
 returns c = unseated _ _ _ _
-
-mul-side-of : tie.Need-mul-side-of Inv-loop μ-loop
-mul-side-of c = search needs
-
-shared-slice-read-side-of : tie.Need-shared-slice-read-side-of Inv-loop μ-loop
-shared-slice-read-side-of c = search needs
-
-add-side-of : tie.Need-add-side-of Inv-loop μ-loop
-add-side-of c = search needs
-
-mul-side-of-2 : tie.Need-mul-side-of-2 Inv-loop μ-loop
-mul-side-of-2 c = search needs
-
-shared-slice-read-side-of-2 : tie.Need-shared-slice-read-side-of-2 Inv-loop μ-loop
-shared-slice-read-side-of-2 c = search needs
-
-add-side-of-2 : tie.Need-add-side-of-2 Inv-loop μ-loop
-add-side-of-2 c = search needs
-
-mul-side-of-3 : tie.Need-mul-side-of-3 Inv-loop μ-loop
-mul-side-of-3 c = search needs
-
-shared-slice-read-side-of-3 : tie.Need-shared-slice-read-side-of-3 Inv-loop μ-loop
-shared-slice-read-side-of-3 c = search needs
-
-side-of-requires : tie.Need-side-of-requires Inv-loop μ-loop
-side-of-requires c κs = search needs
-
-enum-known-i : tie.Need-enum-known-i Inv-loop μ-loop
-enum-known-i c = search needs
 
 returns-2 : tie.Need-returns-2 Inv-loop μ-loop
 returns-2 c = let l = c .before .before .before .before .before .before .before .before .before .loop in
@@ -60,26 +27,11 @@ returns-2 c = let l = c .before .before .before .before .before .before .before 
     let v = w .all _ (c .before .i .given .1) in
     seated _ _ _ _ _ (omega arith) (skipped-here _ _ _ _ _ _ z h (l .inv .1) _ w _ (c .before .i .given .1))
 
-enum-told : tie.Need-enum-told Inv-loop μ-loop
-enum-told c = search needs
-
-add-at : tie.Need-add-at Inv-loop μ-loop
-add-at c = search needs
-
-sub-rows : tie.Need-sub-rows Inv-loop μ-loop
-sub-rows c = search needs
-
-loop-less : tie.Need-loop-less Inv-loop μ-loop
-loop-less c = search needs
-
 loop-again : tie.Need-loop-again Inv-loop μ-loop
 loop-again c = let l = c .before .before .before .before .before .before .before .before .loop in
     let h : l .at + 3 ≤ length (c .before .before .before .before .before .before .before .before .before .before .args .regions .now) = omega arith in
     let z : 0 < l .rows = omega arith in
     (search needs, skipped-next _ _ _ _ _ _ z h (l .inv .1) _ (c .before .before .side-of .ensures) (c .enum-told .given .1))
-
-enum-told-2 : tie.Need-enum-told-2 Inv-loop μ-loop
-enum-told-2 c = search needs
 
 returns-3 : tie.Need-returns-3 Inv-loop μ-loop
 returns-3 c = unseated _ _ _ _
@@ -94,24 +46,24 @@ find-run-spec =
     Inv-loop
     μ-loop
     loop-holds
-    sub-if1
+    (λ c. search needs)
     returns
-    mul-side-of
-    shared-slice-read-side-of
-    add-side-of
-    mul-side-of-2
-    shared-slice-read-side-of-2
-    add-side-of-2
-    mul-side-of-3
-    shared-slice-read-side-of-3
-    side-of-requires
-    enum-known-i
+    (λ c. search needs)
+    (λ c. search needs)
+    (λ c. search needs)
+    (λ c. search needs)
+    (λ c. search needs)
+    (λ c. search needs)
+    (λ c. search needs)
+    (λ c. search needs)
+    (λ c κs. search needs)
+    (λ c. search needs)
     returns-2
-    enum-told
-    add-at
-    sub-rows
-    loop-less
+    (λ c. search needs)
+    (λ c. search needs)
+    (λ c. search needs)
+    (λ c. search needs)
     loop-again
-    enum-told-2
+    (λ c. search needs)
     returns-3
     returns-4)

@@ -9,12 +9,6 @@ use Rattle.regions.proofs.side_of.Tie as tie
 returns : tie.Need-returns
 returns c = let a = c .before .args in let f = extent-fits (row (a .base) (a .len) (a .offset)) (a .size) in sided-away _ _ _ _ (λ x i u v q. omega arith)
 
-least-requires : tie.Need-least-requires
-least-requires c κs = search needs
-
-sub-if3 : tie.Need-sub-if3
-sub-if3 c = search needs
-
 returns-2 : tie.Need-returns-2
 returns-2 c = let a = c .before .before .before .before .args in let f = extent-fits (row (a .base) (a .len) (a .offset)) (a .size) in sided-away _ _ _ _ (λ x i u v q. omega arith)
 
@@ -24,14 +18,8 @@ returns-3 c = sided-split _ _ _ _
 returns-4 : tie.Need-returns-4
 returns-4 c = let a = c .before .before .before .before .args in let f = extent-fits (row (a .base) (a .len) (a .offset)) (a .size) in sided-away _ _ _ _ (λ x i u v q. omega arith)
 
-sub-if5 : tie.Need-sub-if5
-sub-if5 c = search needs
-
 returns-5 : tie.Need-returns-5
 returns-5 c = sided-split _ _ _ _
-
-add-t14 : tie.Need-add-t14
-add-t14 c = search needs
 
 returns-6 : tie.Need-returns-6
 returns-6 c = sided-all _ _ _ _ _ (omega arith) (omega arith) (omega arith) (omega arith) (omega arith)
@@ -41,12 +29,12 @@ side-of-spec =
     tie.close
     (tie.spec
     returns
-    least-requires
-    sub-if3
+    (λ c κs. search needs)
+    (λ c. search needs)
     returns-2
     returns-3
     returns-4
-    sub-if5
+    (λ c. search needs)
     returns-5
-    add-t14
+    (λ c. search needs)
     returns-6)

@@ -4,28 +4,10 @@ use Rattle.wire.specs.Number.{sets-bytes}
 use Rattle.wire.proofs.put4.Statement.{statement}
 use Rattle.wire.proofs.put4.Tie as tie
 
-cast-put2 : tie.Need-cast-put2
-cast-put2 c = search needs
-
-put2-requires : tie.Need-put2-requires
-put2-requires c κs = search needs
-
-add-put2 : tie.Need-add-put2
-add-put2 c = search needs
-
-cast-put2-2 : tie.Need-cast-put2-2
-cast-put2-2 c = search needs
-
-put2-requires-2 : tie.Need-put2-requires-2
-put2-requires-2 c κs = search needs
-
-same-length : tie.Need-same-length
-same-length c = search needs
-
 returns : tie.Need-returns
 returns c = cc (sets-bytes (c .before .before .before .before .before .before .before .before .before .args .s .now) (c .before .before .before .before .before .before .before .before .before .args .i) 2 2 (c .before .before .before .before .before .before .before .before .before .args .v))
 
 pub put4-spec : {M : Type 1} → statement M
 put4-spec =
     tie.close
-    (tie.spec cast-put2 put2-requires add-put2 cast-put2-2 put2-requires-2 same-length returns)
+    (tie.spec (λ c. search needs) (λ c κs. search needs) (λ c. search needs) (λ c. search needs) (λ c κs. search needs) (λ c. search needs) returns)

@@ -8,27 +8,6 @@ use Rattle.writing.proofs.first_place.Tie as tie
 returns : tie.Need-returns
 returns c = unseated _ _ _ _
 
-shared-slice-read-seat : tie.Need-shared-slice-read-seat
-shared-slice-read-seat c = search needs
-
-shared-slice-read-seat-2 : tie.Need-shared-slice-read-seat-2
-shared-slice-read-seat-2 c = search needs
-
-shared-slice-read-seat-3 : tie.Need-shared-slice-read-seat-3
-shared-slice-read-seat-3 c = search needs
-
-seat-requires : tie.Need-seat-requires
-seat-requires c κs = search needs
-
-enum-known-i : tie.Need-enum-known-i
-enum-known-i c = search needs
-
-enum-told : tie.Need-enum-told
-enum-told c = search needs
-
-enum-told-2 : tie.Need-enum-told-2
-enum-told-2 c = search needs
-
 returns-2 : tie.Need-returns-2
 returns-2 c = seated-run _ _ _ _ _ (first-run (c .before .before .before .before .before .before .before .before .before .args .regions .now) _ _ _ (omega arith) _ (c .before .before .before .seat .ensures) _ (c .before .i .given .1))
 
@@ -43,13 +22,13 @@ first-place-spec =
     tie.close
     (tie.spec
     returns
-    shared-slice-read-seat
-    shared-slice-read-seat-2
-    shared-slice-read-seat-3
-    seat-requires
-    enum-known-i
-    enum-told
-    enum-told-2
+    (λ c. search needs)
+    (λ c. search needs)
+    (λ c. search needs)
+    (λ c κs. search needs)
+    (λ c. search needs)
+    (λ c. search needs)
+    (λ c. search needs)
     returns-2
     returns-3
     returns-4)

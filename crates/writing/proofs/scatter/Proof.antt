@@ -22,23 +22,8 @@ loop-holds c = (search needs, refl, rw spots-none)
 add-store-byte : tie.Need-add-store-byte Inv-loop μ-loop
 add-store-byte c = let l = c .before .before .loop in let z : l .k < length (c .before .before .before .before .before .before .args .src .now) = omega arith in omega (arith, covered-top _ _ _ _ (c .before .before .before .before .before .before .pre) (l .k) z)
 
-shared-slice-read-store-byte : tie.Need-shared-slice-read-store-byte Inv-loop μ-loop
-shared-slice-read-store-byte c = search needs
-
-store-byte-requires : tie.Need-store-byte-requires Inv-loop μ-loop
-store-byte-requires c κs = search needs
-
-add-k : tie.Need-add-k Inv-loop μ-loop
-add-k c = search needs
-
-loop-less : tie.Need-loop-less Inv-loop μ-loop
-loop-less c = search needs
-
 loop-again : tie.Need-loop-again Inv-loop μ-loop
 loop-again c = let l = c .before .before .before .before .before .before .loop in let z : l .k < length (c .before .before .before .before .before .before .before .before .before .before .args .src .now) = omega arith in (search needs, search needs, stored-next (c .before .before .before .before .before .before .before .before .before .before .args .regions .now) (c .before .before .before .before .before .before .before .before .before .before .args .mem .now) (c .before .before .before .before .before .before .before .before .before .before .args .a) (c .before .before .before .before .before .before .before .before .before .before .args .src .now) (l .k) (l .mem) (l .inv .2) z _ (c .before .before .store-byte .ensures))
-
-same-length : tie.Need-same-length Inv-loop μ-loop
-same-length c = search needs
 
 returns : tie.Need-returns Inv-loop μ-loop
 returns c = let l = c .before .loop in stored-all (c .before .before .before .before .before .args .regions .now) (c .before .before .before .before .before .args .mem .now) (c .before .before .before .before .before .args .a) (c .before .before .before .before .before .args .src .now) (l .k) _ (l .inv .2) (l .inv .0) (omega arith)
@@ -51,10 +36,10 @@ scatter-spec =
     μ-loop
     loop-holds
     add-store-byte
-    shared-slice-read-store-byte
-    store-byte-requires
-    add-k
-    loop-less
+    (λ c. search needs)
+    (λ c κs. search needs)
+    (λ c. search needs)
+    (λ c. search needs)
     loop-again
-    same-length
+    (λ c. search needs)
     returns)

@@ -4,20 +4,8 @@ use Rattle.regions.specs.Table.{spot-found, spot-room}
 use Rattle.writing.proofs.store_byte.Statement.{statement}
 use Rattle.writing.proofs.store_byte.Tie as tie
 
-find-requires : tie.Need-find-requires
-find-requires c κs = search needs
-
-enum-known-i : tie.Need-enum-known-i
-enum-known-i c = search needs
-
 slice-write-mem : tie.Need-slice-write-mem
 slice-write-mem c = spot-room _ _ _ _ (spot-found _ _ _ _ _ (c .before .before .before .find .ensures) (c .before .i .given .1))
-
-enum-told : tie.Need-enum-told
-enum-told c = search needs
-
-same-length : tie.Need-same-length
-same-length c = search needs
 
 returns : tie.Need-returns
 returns c = rw (spot-found _ _ _ _ _ (c .before .before .before .find .ensures) (c .before .i .given .1))
@@ -28,4 +16,4 @@ returns-2 c = rw (spot-found _ _ _ _ _ (c .before .before .find .ensures) (c .en
 pub store-byte-spec : {M : Type 1} → statement M
 store-byte-spec =
     tie.close
-    (tie.spec find-requires enum-known-i slice-write-mem enum-told same-length returns returns-2)
+    (tie.spec (λ c κs. search needs) (λ c. search needs) slice-write-mem (λ c. search needs) (λ c. search needs) returns returns-2)

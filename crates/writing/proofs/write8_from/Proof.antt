@@ -6,21 +6,9 @@ use Rattle.wire.specs.Part.{sets-whole}
 use Rattle.writing.proofs.write8_from.Statement.{statement}
 use Rattle.writing.proofs.write8_from.Tie as tie
 
-put-pair-requires : tie.Need-put-pair-requires
-put-pair-requires c κs = search needs
-
-write-across-requires : tie.Need-write-across-requires
-write-across-requires c κs = search needs
-
-same-length : tie.Need-same-length
-same-length c = search needs
-
-same-length-2 : tie.Need-same-length-2
-same-length-2 c = search needs
-
 returns : tie.Need-returns
 returns c = let e = c .before .before .before .before .before .before .before .put-pair .ensures ∙ sets-whole (c .before .before .before .before .before .before .before .before .before .before .before .before .args .src .now) (pairBytes (c .before .before .before .before .before .before .before .before .before .before .before .before .args .x) (c .before .before .before .before .before .before .before .before .before .before .before .before .args .y)) (c .before .before .before .before .before .before .before .before .before .before .before .before .pre) in rw e at (c .before .before .write-across .ensures)
 
 pub write8-from-spec : {M : Type 1} → statement M
 write8-from-spec =
-    tie.close (tie.spec put-pair-requires write-across-requires same-length same-length-2 returns)
+    tie.close (tie.spec (λ c κs. search needs) (λ c κs. search needs) (λ c. search needs) (λ c. search needs) returns)

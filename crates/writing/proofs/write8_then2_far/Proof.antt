@@ -5,26 +5,11 @@ use borrow.Author.Needs.{needs}
 use Rattle.writing.proofs.write8_then2_far.Statement.{statement}
 use Rattle.writing.proofs.write8_then2_far.Tie as tie
 
-can-write-requires : tie.Need-can-write-requires
-can-write-requires c κs = search needs
-
 returns : tie.Need-returns
 returns c = both-no-second _ _ _ _ _ _ _ (c .before .can-write .ensures) (not-true _ (c .if1 .taken))
 
-write8-requires : tie.Need-write8-requires
-write8-requires c κs = search needs
-
-same-length : tie.Need-same-length
-same-length c = search needs
-
 returns-2 : tie.Need-returns-2
 returns-2 c = both-no-first _ _ _ _ _ _ _ (c .before .before .before .before .before .before .can-write .ensures) (not-false _ (c .before .before .before .before .before .if1 .left)) _ _ (c .before .before .before .write8 .ensures) (not-true _ (c .if2 .taken))
-
-write2-requires : tie.Need-write2-requires
-write2-requires c κs = search needs
-
-same-length-2 : tie.Need-same-length-2
-same-length-2 c = search needs
 
 returns-3 : tie.Need-returns-3
 returns-3 c = both-done _ _ _ _ _ _ _ (c .before .before .before .before .before .before .before .before .before .before .can-write .ensures) (not-false _ (c .before .before .before .before .before .before .before .before .before .if1 .left)) _ _ (c .before .before .before .before .before .before .before .write8 .ensures) (not-false _ (c .before .before .before .before .if2 .left)) _ _ (c .before .before .write2 .ensures)
@@ -33,11 +18,11 @@ pub write8-then2-far-spec : {M : Type 1} → statement M
 write8-then2-far-spec =
     tie.close
     (tie.spec
-    can-write-requires
+    (λ c κs. search needs)
     returns
-    write8-requires
-    same-length
+    (λ c κs. search needs)
+    (λ c. search needs)
     returns-2
-    write2-requires
-    same-length-2
+    (λ c κs. search needs)
+    (λ c. search needs)
     returns-3)

@@ -8,12 +8,6 @@ use Rattle.writing.specs.Writes.{wrote-refused, wrote-slow}
 use Rattle.writing.proofs.write_across.Statement.{statement}
 use Rattle.writing.proofs.write_across.Tie as tie
 
-cast-can-write : tie.Need-cast-can-write
-cast-can-write c = search needs
-
-can-write-requires : tie.Need-can-write-requires
-can-write-requires c κs = search needs
-
 returns : tie.Need-returns
 returns c = wrote-refused _ _ _ _ _ (c .before .can-write .ensures) (not-true _ (c .if1 .taken))
 
@@ -23,9 +17,6 @@ add-scatter c = let h : c .before .before .before .before .before .before .args 
 scatter-requires : tie.Need-scatter-requires
 scatter-requires c κs = writable-covered _ _ _ _ _ (c .before .before .can-write .ensures) (not-false _ (c .before .if1 .left))
 
-same-length : tie.Need-same-length
-same-length c = search needs
-
 returns-2 : tie.Need-returns-2
 returns-2 c = wrote-slow _ _ _ _ _ _ (c .before .before .before .before .before .can-write .ensures) (not-false _ (c .before .before .before .before .if1 .left)) (c .before .before .scatter .ensures)
 
@@ -33,10 +24,10 @@ pub write-across-spec : {M : Type 1} → statement M
 write-across-spec =
     tie.close
     (tie.spec
-    cast-can-write
-    can-write-requires
+    (λ c. search needs)
+    (λ c κs. search needs)
     returns
     add-scatter
     scatter-requires
-    same-length
+    (λ c. search needs)
     returns-2)

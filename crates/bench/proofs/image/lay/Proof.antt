@@ -15,29 +15,8 @@ abbrev μ-loop : tie.MeasureT-loop
 loop-holds : tie.Need-loop-holds Inv-loop μ-loop
 loop-holds c = (search needs, refl)
 
-following-requires : tie.Need-following-requires Inv-loop μ-loop
-following-requires c κs = search needs
-
-lay-one-requires : tie.Need-lay-one-requires Inv-loop μ-loop
-lay-one-requires c κs = search needs
-
-following-requires-2 : tie.Need-following-requires-2 Inv-loop μ-loop
-following-requires-2 c κs = search needs
-
-add-i : tie.Need-add-i Inv-loop μ-loop
-add-i c = search needs
-
-loop-less : tie.Need-loop-less Inv-loop μ-loop
-loop-less c = search needs
-
 loop-again : tie.Need-loop-again Inv-loop μ-loop
 loop-again c = (search needs, search needs)
-
-same-length : tie.Need-same-length Inv-loop μ-loop
-same-length c = search needs
-
-returns : tie.Need-returns Inv-loop μ-loop
-returns c = search needs
 
 pub lay-spec : {M : Type 1} → statement M
 lay-spec =
@@ -46,11 +25,11 @@ lay-spec =
     Inv-loop
     μ-loop
     loop-holds
-    following-requires
-    lay-one-requires
-    following-requires-2
-    add-i
-    loop-less
+    (λ c κs. search needs)
+    (λ c κs. search needs)
+    (λ c κs. search needs)
+    (λ c. search needs)
+    (λ c. search needs)
     loop-again
-    same-length
-    returns)
+    (λ c. search needs)
+    (λ c. search needs))

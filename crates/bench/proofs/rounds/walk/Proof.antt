@@ -12,35 +12,8 @@ Inv-loop sum table mem c₀ total₀ last₀ c total last = 0 ≤ c .ttl
 abbrev μ-loop : tie.MeasureT-loop
 μ-loop sum table mem c₀ total₀ last₀ c total last = c .ttl
 
-loop-holds : tie.Need-loop-holds Inv-loop μ-loop
-loop-holds c = search needs
-
-next-requires : tie.Need-next-requires Inv-loop μ-loop
-next-requires c κs = search needs
-
-enum-known-d : tie.Need-enum-known-d Inv-loop μ-loop
-enum-known-d c = search needs
-
-wrapping-add-u64-requires : tie.Need-wrapping-add-u64-requires Inv-loop μ-loop
-wrapping-add-u64-requires c κs = search needs
-
-cast-wrapping-add-u64 : tie.Need-cast-wrapping-add-u64 Inv-loop μ-loop
-cast-wrapping-add-u64 c = search needs
-
-wrapping-add-u64-requires-2 : tie.Need-wrapping-add-u64-requires-2 Inv-loop μ-loop
-wrapping-add-u64-requires-2 c κs = search needs
-
 loop-less : tie.Need-loop-less Inv-loop μ-loop
 loop-less c = step-falls _ _ _ _ _ (sym (c .before .before .before .before .before .before .next .ensures) ∙ c .before .before .before .before .d .given .1) .ration
-
-loop-again : tie.Need-loop-again Inv-loop μ-loop
-loop-again c = search needs
-
-enum-told : tie.Need-enum-told Inv-loop μ-loop
-enum-told c = search needs
-
-returns : tie.Need-returns Inv-loop μ-loop
-returns c = search needs
 
 pub walk-spec : {M : Type 1} → statement M
 walk-spec =
@@ -48,13 +21,13 @@ walk-spec =
     (tie.spec
     Inv-loop
     μ-loop
-    loop-holds
-    next-requires
-    enum-known-d
-    wrapping-add-u64-requires
-    cast-wrapping-add-u64
-    wrapping-add-u64-requires-2
+    (λ c. search needs)
+    (λ c κs. search needs)
+    (λ c. search needs)
+    (λ c κs. search needs)
+    (λ c. search needs)
+    (λ c κs. search needs)
     loop-less
-    loop-again
-    enum-told
-    returns)
+    (λ c. search needs)
+    (λ c. search needs)
+    (λ c. search needs))

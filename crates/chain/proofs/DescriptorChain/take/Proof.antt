@@ -11,35 +11,12 @@ use Rattle.chain.proofs.DescriptorChain.take.Lts as lts
 use Rattle.desc.proofs.Descriptor.has_next.Reads as has-next-reads
 use Rattle.desc.proofs.Descriptor.refers_to_indirect_table.Reads as refers-to-indirect-table-reads
 
--- src/lib.rt:52:12
-refers-to-indirect-table-requires : tie.Need-refers-to-indirect-table-requires
-refers-to-indirect-table-requires c κs = search needs
-
--- src/lib.rt:53:13
 returns : tie.Need-returns
 returns c = sym (taken-indirect _ _ (sym (c .before .refers-to-indirect-table .ensures) ∙ c .if1 .taken))
 
--- src/lib.rt:56:12
-sub-if2 : tie.Need-sub-if2
-sub-if2 c = search needs
-
--- src/lib.rt:57:13
 returns-2 : tie.Need-returns-2
 returns-2 c = sym (taken-past _ _ (sym (c .before .before .before .before .refers-to-indirect-table .ensures) ∙ c .before .before .before .if1 .left) (omega arith))
 
--- src/lib.rt:61:12
-has-next-requires : tie.Need-has-next-requires
-has-next-requires c κs = search needs
-
--- src/lib.rt:63:19
-sub-ttl : tie.Need-sub-ttl
-sub-ttl c = search needs
-
--- src/lib.rt:73:32
-add-t6 : tie.Need-add-t6
-add-t6 c = search needs
-
--- src/lib.rt:48:5
 returns-3 : tie.Need-returns-3
 returns-3 c = ⊎-elim
     (λ w. taken-on _ _ (sym (c .before .before .before .before .before .before .before .before .refers-to-indirect-table .ensures) ∙ c .before .before .before .before .before .before .before .if1 .left) (omega arith) _ _ (sym (c .before .before .before .has-next .ensures) ∙ w .0 .taken) (w .2) (w .3))
@@ -50,11 +27,11 @@ pub take-spec : {M : Type 1} → statement M
 take-spec =
     tie.close
     (tie.spec
-    refers-to-indirect-table-requires
+    (λ c κs. search needs)
     returns
-    sub-if2
+    (λ c. search needs)
     returns-2
-    has-next-requires
-    sub-ttl
-    add-t6
+    (λ c κs. search needs)
+    (λ c. search needs)
+    (λ c. search needs)
     returns-3)

@@ -18,35 +18,15 @@ Inv-loop queue-size places k₀ k = (k ≤ length places) × (every (below queue
 abbrev μ-loop : tie.MeasureT-loop
 μ-loop queue-size places k₀ k = length places - k
 
--- src/lay.rt:74:5
 loop-holds : tie.Need-loop-holds Inv-loop μ-loop
 loop-holds c = (search needs, every-begin _ _)
 
--- src/lay.rt:75:12
-mul-if1 : tie.Need-mul-if1 Inv-loop μ-loop
-mul-if1 c = search needs
-
--- src/lay.rt:75:12
-shared-slice-read-if1 : tie.Need-shared-slice-read-if1 Inv-loop μ-loop
-shared-slice-read-if1 c = search needs
-
--- src/lay.rt:76:13
 returns : tie.Need-returns Inv-loop μ-loop
 returns c = every-no (below (c .before .before .before .before .args .queue-size) (c .before .before .before .before .args .places .now)) (length (c .before .before .before .before .args .places .now)) (c .before .before .before .loop .k) (c .before .before .before .loop .inv .1) (omega arith) (below-no _ _ _ (c .if1 .taken))
 
--- src/lay.rt:78:9
-add-k : tie.Need-add-k Inv-loop μ-loop
-add-k c = search needs
-
--- src/lay.rt:74:5
-loop-less : tie.Need-loop-less Inv-loop μ-loop
-loop-less c = search needs
-
--- src/lay.rt:74:5
 loop-again : tie.Need-loop-again Inv-loop μ-loop
 loop-again c = (search needs, every-on (below (c .before .before .before .before .args .queue-size) (c .before .before .before .before .args .places .now)) (length (c .before .before .before .before .args .places .now)) (c .before .before .before .loop .k) (c .before .before .before .loop .inv .1) (omega arith) (below-yes _ _ _ (c .if1 .left)))
 
--- src/lay.rt:70:1
 returns-2 : tie.Need-returns-2 Inv-loop μ-loop
 returns-2 c = every-end (below (c .before .before .args .queue-size) (c .before .before .args .places .now)) (length (c .before .before .args .places .now)) (c .before .loop .k) (c .before .loop .inv .1) (omega arith)
 
@@ -57,10 +37,10 @@ all-below-spec =
     Inv-loop
     μ-loop
     loop-holds
-    mul-if1
-    shared-slice-read-if1
+    (λ c. search needs)
+    (λ c. search needs)
     returns
-    add-k
-    loop-less
+    (λ c. search needs)
+    (λ c. search needs)
     loop-again
     returns-2)

@@ -20,35 +20,18 @@ Inv-loop places addrs lens flags k₀ k = (k ≤ length places) × (every (direc
 abbrev μ-loop : tie.MeasureT-loop
 μ-loop places addrs lens flags k₀ k = length places - k
 
--- src/lay.rt:117:5
 loop-holds : tie.Need-loop-holds Inv-loop μ-loop
 loop-holds c = (search needs, every-begin _ _)
 
--- src/lay.rt:118:12
 link-requires : tie.Need-link-requires Inv-loop μ-loop
 link-requires c κs = same-in (listed (c .before .before .before .before .before .before .args .places .now) (c .before .before .before .before .before .before .args .addrs .now) (c .before .before .before .before .before .before .args .lens .now) (c .before .before .before .before .before .before .args .flags .now)) (c .before .loop .k) (c .before .before .before .before .before .before .pre) (omega arith)
 
--- src/lay.rt:118:12
-refers-to-indirect-table-requires : tie.Need-refers-to-indirect-table-requires Inv-loop μ-loop
-refers-to-indirect-table-requires c κs = search needs
-
--- src/lay.rt:119:13
 returns : tie.Need-returns Inv-loop μ-loop
 returns c = every-no (direct (listed (c .before .before .before .before .before .before .before .before .before .args .places .now) (c .before .before .before .before .before .before .before .before .before .args .addrs .now) (c .before .before .before .before .before .before .before .before .before .args .lens .now) (c .before .before .before .before .before .before .before .before .before .args .flags .now))) (length (c .before .before .before .before .before .before .before .before .before .args .places .now)) (c .before .before .before .before .loop .k) (c .before .before .before .before .loop .inv .1) (omega arith) (direct-no _ _ _ _ (c .before .before .link .ensures) (c .before .refers-to-indirect-table .ensures) (c .if1 .taken))
 
--- src/lay.rt:121:9
-add-k : tie.Need-add-k Inv-loop μ-loop
-add-k c = search needs
-
--- src/lay.rt:117:5
-loop-less : tie.Need-loop-less Inv-loop μ-loop
-loop-less c = search needs
-
--- src/lay.rt:117:5
 loop-again : tie.Need-loop-again Inv-loop μ-loop
 loop-again c = (search needs, every-on (direct (listed (c .before .before .before .before .before .before .before .before .before .args .places .now) (c .before .before .before .before .before .before .before .before .before .args .addrs .now) (c .before .before .before .before .before .before .before .before .before .args .lens .now) (c .before .before .before .before .before .before .before .before .before .args .flags .now))) (length (c .before .before .before .before .before .before .before .before .before .args .places .now)) (c .before .before .before .before .loop .k) (c .before .before .before .before .loop .inv .1) (omega arith) (direct-yes _ _ _ _ (c .before .before .link .ensures) (c .before .refers-to-indirect-table .ensures) (c .if1 .left)))
 
--- src/lay.rt:112:1
 returns-2 : tie.Need-returns-2 Inv-loop μ-loop
 returns-2 c = every-end (direct (listed (c .before .before .before .before .before .before .args .places .now) (c .before .before .before .before .before .before .args .addrs .now) (c .before .before .before .before .before .before .args .lens .now) (c .before .before .before .before .before .before .args .flags .now))) (length (c .before .before .before .before .before .before .args .places .now)) (c .before .loop .k) (c .before .loop .inv .1) (omega arith)
 
@@ -60,9 +43,9 @@ all-direct-spec =
     μ-loop
     loop-holds
     link-requires
-    refers-to-indirect-table-requires
+    (λ c κs. search needs)
     returns
-    add-k
-    loop-less
+    (λ c. search needs)
+    (λ c. search needs)
     loop-again
     returns-2)

@@ -19,47 +19,21 @@ Inv-loop regions size desc-table places k₀ k = (k ≤ length places) × (every
 abbrev μ-loop : tie.MeasureT-loop
 μ-loop regions size desc-table places k₀ k = length places - k
 
--- src/lay.rt:146:5
 loop-holds : tie.Need-loop-holds Inv-loop μ-loop
 loop-holds c = (search needs, every-begin _ _)
 
--- src/lay.rt:147:89
-mul-can-write : tie.Need-mul-can-write Inv-loop μ-loop
-mul-can-write c = search needs
-
--- src/lay.rt:147:89
-shared-slice-read-can-write : tie.Need-shared-slice-read-can-write Inv-loop μ-loop
-shared-slice-read-can-write c = search needs
-
--- src/lay.rt:147:89
 cast-can-write : tie.Need-cast-can-write Inv-loop μ-loop
 cast-can-write c = omega (arith, c .shared-slice-known3 .given (c .before .before .loop .k))
 
--- src/lay.rt:147:58
 mul-can-write-2 : tie.Need-mul-can-write-2 Inv-loop μ-loop
 mul-can-write-2 c = omega (arith, c .shared-slice-known3 .given (c .before .before .loop .k))
 
--- src/lay.rt:147:13
-can-write-requires : tie.Need-can-write-requires Inv-loop μ-loop
-can-write-requires c κs = search needs
-
--- src/lay.rt:148:13
 returns : tie.Need-returns Inv-loop μ-loop
 returns c = every-no (canStore (c .before .before .before .before .before .before .before .args .regions .now) (c .before .before .before .before .before .before .before .args .size) (c .before .before .before .before .before .before .before .args .desc-table) (c .before .before .before .before .before .before .before .args .places .now)) (length (c .before .before .before .before .before .before .before .args .places .now)) (c .before .before .before .before .loop .k) (c .before .before .before .before .loop .inv .1) (omega arith) (can-no _ _ _ _ _ _ (c .before .can-write .ensures) (c .if1 .taken))
 
--- src/lay.rt:150:9
-add-k : tie.Need-add-k Inv-loop μ-loop
-add-k c = search needs
-
--- src/lay.rt:146:5
-loop-less : tie.Need-loop-less Inv-loop μ-loop
-loop-less c = search needs
-
--- src/lay.rt:146:5
 loop-again : tie.Need-loop-again Inv-loop μ-loop
 loop-again c = (search needs, every-on (canStore (c .before .before .before .before .before .before .before .args .regions .now) (c .before .before .before .before .before .before .before .args .size) (c .before .before .before .before .before .before .before .args .desc-table) (c .before .before .before .before .before .before .before .args .places .now)) (length (c .before .before .before .before .before .before .before .args .places .now)) (c .before .before .before .before .loop .k) (c .before .before .before .before .loop .inv .1) (omega arith) (can-yes _ _ _ _ _ _ (c .before .can-write .ensures) (c .if1 .left)))
 
--- src/lay.rt:142:1
 returns-2 : tie.Need-returns-2 Inv-loop μ-loop
 returns-2 c = every-end (canStore (c .before .before .before .before .args .regions .now) (c .before .before .before .before .args .size) (c .before .before .before .before .args .desc-table) (c .before .before .before .before .args .places .now)) (length (c .before .before .before .before .args .places .now)) (c .before .loop .k) (c .before .loop .inv .1) (omega arith)
 
@@ -70,13 +44,13 @@ can-store-spec =
     Inv-loop
     μ-loop
     loop-holds
-    mul-can-write
-    shared-slice-read-can-write
+    (λ c. search needs)
+    (λ c. search needs)
     cast-can-write
     mul-can-write-2
-    can-write-requires
+    (λ c κs. search needs)
     returns
-    add-k
-    loop-less
+    (λ c. search needs)
+    (λ c. search needs)
     loop-again
     returns-2)

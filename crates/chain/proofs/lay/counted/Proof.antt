@@ -10,23 +10,18 @@ use Rattle.chain.proofs.lay.counted.Tie as tie
 use Rattle.chain.proofs.lay.counted.Reads as reads
 use Rattle.chain.proofs.lay.counted.Lts as lts
 
--- src/lay.rt:56:9
 returns : tie.Need-returns
 returns c = counted-none _ (listed (c .before .args .places .now) (c .before .args .addrs .now) (c .before .args .lens .now) (c .before .args .flags .now)) (c .if1 .taken)
 
--- src/lay.rt:59:9
 returns-2 : tie.Need-returns-2
 returns-2 c = counted-many _ (listed (c .before .before .args .places .now) (c .before .before .args .addrs .now) (c .before .before .args .lens .now) (c .before .before .args .flags .now)) (omega arith) (c .if2 .taken)
 
--- src/lay.rt:62:9
 returns-3 : tie.Need-returns-3
 returns-3 c = counted-addrs _ (listed (c .before .before .before .args .places .now) (c .before .before .before .args .addrs .now) (c .before .before .before .args .lens .now) (c .before .before .before .args .flags .now)) (omega arith) (omega arith) (c .if3 .taken)
 
--- src/lay.rt:65:9
 returns-4 : tie.Need-returns-4
 returns-4 c = counted-lens _ (listed (c .before .before .before .before .args .places .now) (c .before .before .before .before .args .addrs .now) (c .before .before .before .before .args .lens .now) (c .before .before .before .before .args .flags .now)) (omega arith) (omega arith) (c .before .if3 .left) (c .if4 .taken)
 
--- src/lay.rt:51:1
 returns-5 : tie.Need-returns-5
 returns-5 c = counted-flags _ (listed (c .before .before .before .before .args .places .now) (c .before .before .before .before .args .addrs .now) (c .before .before .before .before .args .lens .now) (c .before .before .before .before .args .flags .now)) (omega arith) (omega arith) (c .before .if3 .left) (c .if4 .left)
 

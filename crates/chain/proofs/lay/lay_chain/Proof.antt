@@ -14,63 +14,30 @@ use Rattle.chain.proofs.lay.counted.Reads as counted-reads
 use Rattle.chain.proofs.lay.store.Reads as store-reads
 use Rattle.chain.proofs.lay.sum_fits.Reads as sum-fits-reads
 
--- src/lay.rt:184:9
-counted-requires : tie.Need-counted-requires
-counted-requires c κs = search needs
-
--- src/lay.rt:185:9
 returns : tie.Need-returns
 returns c = lay-count (c .before .before .before .before .before .before .before .before .args .regions .now) (c .before .before .before .before .before .before .before .before .args .mem .now) (c .before .before .before .before .before .before .before .before .args .desc-table) (c .before .before .before .before .before .before .before .before .args .queue-size) (listed (c .before .before .before .before .before .before .before .before .args .places .now) (c .before .before .before .before .before .before .before .before .args .addrs .now) (c .before .before .before .before .before .before .before .before .args .lens .now) (c .before .before .before .before .before .before .before .before .args .flags .now)) _ (c .before .counted .ensures) (c .if1 .taken)
 
--- src/lay.rt:187:9
-all-below-requires : tie.Need-all-below-requires
-all-below-requires c κs = search needs
-
--- src/lay.rt:188:9
 returns-2 : tie.Need-returns-2
 returns-2 c = lay-place (c .before .before .before .before .before .before .before .before .before .before .args .regions .now) (c .before .before .before .before .before .before .before .before .before .before .args .mem .now) (c .before .before .before .before .before .before .before .before .before .before .args .desc-table) (c .before .before .before .before .before .before .before .before .before .before .args .queue-size) (listed (c .before .before .before .before .before .before .before .before .before .before .args .places .now) (c .before .before .before .before .before .before .before .before .before .before .args .addrs .now) (c .before .before .before .before .before .before .before .before .before .before .args .lens .now) (c .before .before .before .before .before .before .before .before .before .before .args .flags .now)) _ (c .before .before .before .counted .ensures) (c .before .before .if1 .left) _ (c .before .all-below .ensures) (c .if2 .taken)
 
--- src/lay.rt:190:9
-all-fresh-requires : tie.Need-all-fresh-requires
-all-fresh-requires c κs = search needs
-
--- src/lay.rt:191:9
 returns-3 : tie.Need-returns-3
 returns-3 c = lay-same (c .before .before .before .before .before .before .before .before .before .before .before .before .args .regions .now) (c .before .before .before .before .before .before .before .before .before .before .before .before .args .mem .now) (c .before .before .before .before .before .before .before .before .before .before .before .before .args .desc-table) (c .before .before .before .before .before .before .before .before .before .before .before .before .args .queue-size) (listed (c .before .before .before .before .before .before .before .before .before .before .before .before .args .places .now) (c .before .before .before .before .before .before .before .before .before .before .before .before .args .addrs .now) (c .before .before .before .before .before .before .before .before .before .before .before .before .args .lens .now) (c .before .before .before .before .before .before .before .before .before .before .before .before .args .flags .now)) _ (c .before .before .before .before .before .counted .ensures) (c .before .before .before .before .if1 .left) _ (c .before .before .before .all-below .ensures) (c .before .before .if2 .left) _ (c .before .all-fresh .ensures) (c .if3 .taken)
 
--- src/lay.rt:193:9
 all-direct-requires : tie.Need-all-direct-requires
 all-direct-requires c κs = lay-counted (c .before .before .before .before .before .before .before .before .before .before .before .before .args .regions .now) (c .before .before .before .before .before .before .before .before .before .before .before .before .args .mem .now) (c .before .before .before .before .before .before .before .before .before .before .before .before .args .desc-table) (c .before .before .before .before .before .before .before .before .before .before .before .before .args .queue-size) (listed (c .before .before .before .before .before .before .before .before .before .before .before .before .args .places .now) (c .before .before .before .before .before .before .before .before .before .before .before .before .args .addrs .now) (c .before .before .before .before .before .before .before .before .before .before .before .before .args .lens .now) (c .before .before .before .before .before .before .before .before .before .before .before .before .args .flags .now)) _ (c .before .before .before .before .before .counted .ensures) (c .before .before .before .before .if1 .left) .same
 
--- src/lay.rt:194:9
 returns-4 : tie.Need-returns-4
 returns-4 c = lay-indirect (c .before .before .before .before .before .before .before .before .before .before .before .before .before .before .args .regions .now) (c .before .before .before .before .before .before .before .before .before .before .before .before .before .before .args .mem .now) (c .before .before .before .before .before .before .before .before .before .before .before .before .before .before .args .desc-table) (c .before .before .before .before .before .before .before .before .before .before .before .before .before .before .args .queue-size) (listed (c .before .before .before .before .before .before .before .before .before .before .before .before .before .before .args .places .now) (c .before .before .before .before .before .before .before .before .before .before .before .before .before .before .args .addrs .now) (c .before .before .before .before .before .before .before .before .before .before .before .before .before .before .args .lens .now) (c .before .before .before .before .before .before .before .before .before .before .before .before .before .before .args .flags .now)) _ (c .before .before .before .before .before .before .before .counted .ensures) (c .before .before .before .before .before .before .if1 .left) _ (c .before .before .before .before .before .all-below .ensures) (c .before .before .before .before .if2 .left) _ (c .before .before .before .all-fresh .ensures) (c .before .before .if3 .left) _ (c .before .all-direct .ensures) (c .if4 .taken)
 
--- src/lay.rt:196:9
-sum-fits-requires : tie.Need-sum-fits-requires
-sum-fits-requires c κs = search needs
-
--- src/lay.rt:197:9
 returns-5 : tie.Need-returns-5
 returns-5 c = lay-long (c .before .before .before .before .before .before .before .before .before .before .before .before .before .before .before .before .args .regions .now) (c .before .before .before .before .before .before .before .before .before .before .before .before .before .before .before .before .args .mem .now) (c .before .before .before .before .before .before .before .before .before .before .before .before .before .before .before .before .args .desc-table) (c .before .before .before .before .before .before .before .before .before .before .before .before .before .before .before .before .args .queue-size) (listed (c .before .before .before .before .before .before .before .before .before .before .before .before .before .before .before .before .args .places .now) (c .before .before .before .before .before .before .before .before .before .before .before .before .before .before .before .before .args .addrs .now) (c .before .before .before .before .before .before .before .before .before .before .before .before .before .before .before .before .args .lens .now) (c .before .before .before .before .before .before .before .before .before .before .before .before .before .before .before .before .args .flags .now)) _ (c .before .before .before .before .before .before .before .before .before .counted .ensures) (c .before .before .before .before .before .before .before .before .if1 .left) _ (c .before .before .before .before .before .before .before .all-below .ensures) (c .before .before .before .before .before .before .if2 .left) _ (c .before .before .before .before .before .all-fresh .ensures) (c .before .before .before .before .if3 .left) _ (c .before .before .before .all-direct .ensures) (c .before .before .if4 .left) _ (c .before .sum-fits .ensures) (c .if5 .taken)
 
--- src/lay.rt:199:9
-can-store-requires : tie.Need-can-store-requires
-can-store-requires c κs = search needs
-
--- src/lay.rt:200:9
 returns-6 : tie.Need-returns-6
 returns-6 c = lay-unmapped (c .before .before .before .before .before .before .before .before .before .before .before .before .before .before .before .before .before .before .args .regions .now) (c .before .before .before .before .before .before .before .before .before .before .before .before .before .before .before .before .before .before .args .mem .now) (c .before .before .before .before .before .before .before .before .before .before .before .before .before .before .before .before .before .before .args .desc-table) (c .before .before .before .before .before .before .before .before .before .before .before .before .before .before .before .before .before .before .args .queue-size) (listed (c .before .before .before .before .before .before .before .before .before .before .before .before .before .before .before .before .before .before .args .places .now) (c .before .before .before .before .before .before .before .before .before .before .before .before .before .before .before .before .before .before .args .addrs .now) (c .before .before .before .before .before .before .before .before .before .before .before .before .before .before .before .before .before .before .args .lens .now) (c .before .before .before .before .before .before .before .before .before .before .before .before .before .before .before .before .before .before .args .flags .now)) _ (c .before .before .before .before .before .before .before .before .before .before .before .counted .ensures) (c .before .before .before .before .before .before .before .before .before .before .if1 .left) _ (c .before .before .before .before .before .before .before .before .before .all-below .ensures) (c .before .before .before .before .before .before .before .before .if2 .left) _ (c .before .before .before .before .before .before .before .all-fresh .ensures) (c .before .before .before .before .before .before .if3 .left) _ (c .before .before .before .before .before .all-direct .ensures) (c .before .before .before .before .if4 .left) _ (c .before .before .before .sum-fits .ensures) (c .before .before .if5 .left) _ (c .before .can-store .ensures) (c .if6 .taken)
 
--- src/lay.rt:202:5
 store-requires : tie.Need-store-requires
 store-requires c κs = lay-counted (c .before .before .before .before .before .before .before .before .before .before .before .before .before .before .before .before .before .before .before .args .regions .now) (c .before .before .before .before .before .before .before .before .before .before .before .before .before .before .before .before .before .before .before .args .mem .now) (c .before .before .before .before .before .before .before .before .before .before .before .before .before .before .before .before .before .before .before .args .desc-table) (c .before .before .before .before .before .before .before .before .before .before .before .before .before .before .before .before .before .before .before .args .queue-size) (listed (c .before .before .before .before .before .before .before .before .before .before .before .before .before .before .before .before .before .before .before .args .places .now) (c .before .before .before .before .before .before .before .before .before .before .before .before .before .before .before .before .before .before .before .args .addrs .now) (c .before .before .before .before .before .before .before .before .before .before .before .before .before .before .before .before .before .before .before .args .lens .now) (c .before .before .before .before .before .before .before .before .before .before .before .before .before .before .before .before .before .before .before .args .flags .now)) _ (c .before .before .before .before .before .before .before .before .before .before .before .before .counted .ensures) (c .before .before .before .before .before .before .before .before .before .before .before .if1 .left) .same
 
--- src/lay.rt:181:1
-same-length : tie.Need-same-length
-same-length c = search needs
-
--- src/lay.rt:181:1
 returns-7 : tie.Need-returns-7
 returns-7 c = lay-done (c .before .before .before .before .before .before .before .before .before .before .before .before .before .before .before .before .before .before .before .before .before .before .args .regions .now) (c .before .before .before .before .before .before .before .before .before .before .before .before .before .before .before .before .before .before .before .before .before .before .args .mem .now) (c .before .before .before .before .before .before .before .before .before .before .before .before .before .before .before .before .before .before .before .before .before .before .args .desc-table) (c .before .before .before .before .before .before .before .before .before .before .before .before .before .before .before .before .before .before .before .before .before .before .args .queue-size) (listed (c .before .before .before .before .before .before .before .before .before .before .before .before .before .before .before .before .before .before .before .before .before .before .args .places .now) (c .before .before .before .before .before .before .before .before .before .before .before .before .before .before .before .before .before .before .before .before .before .before .args .addrs .now) (c .before .before .before .before .before .before .before .before .before .before .before .before .before .before .before .before .before .before .before .before .before .before .args .lens .now) (c .before .before .before .before .before .before .before .before .before .before .before .before .before .before .before .before .before .before .before .before .before .before .args .flags .now)) _ (c .before .before .before .before .before .before .before .before .before .before .before .before .before .before .before .counted .ensures) (c .before .before .before .before .before .before .before .before .before .before .before .before .before .before .if1 .left) _ (c .before .before .before .before .before .before .before .before .before .before .before .before .before .all-below .ensures) (c .before .before .before .before .before .before .before .before .before .before .before .before .if2 .left) _ (c .before .before .before .before .before .before .before .before .before .before .before .all-fresh .ensures) (c .before .before .before .before .before .before .before .before .before .before .if3 .left) _ (c .before .before .before .before .before .before .before .before .before .all-direct .ensures) (c .before .before .before .before .before .before .before .before .if4 .left) _ (c .before .before .before .before .before .before .before .sum-fits .ensures) (c .before .before .before .before .before .before .if5 .left) _ (c .before .before .before .before .before .can-store .ensures) (c .before .before .before .before .if6 .left) _ (c .before .before .store .ensures) (λ i. c .before .before .before .before .before .before .before .before .before .before .before .before .before .before .before .before .before .before .shared-slice-known3 .given i .fits) (λ i. c .before .before .before .before .before .before .before .before .before .before .before .before .before .before .before .before .before .shared-slice-known4 .given i .fits) (λ i. c .before .before .before .before .before .before .before .before .before .before .before .before .before .before .before .before .shared-slice-known5 .given i .fits) (λ i. c .before .before .before .before .before .before .before .before .before .before .before .before .before .before .before .before .before .before .before .shared-slice-known2 .given i .fits)
 
@@ -78,18 +45,18 @@ pub lay-chain-spec : {M : Type 1} → statement M
 lay-chain-spec =
     tie.close
     (tie.spec
-    counted-requires
+    (λ c κs. search needs)
     returns
-    all-below-requires
+    (λ c κs. search needs)
     returns-2
-    all-fresh-requires
+    (λ c κs. search needs)
     returns-3
     all-direct-requires
     returns-4
-    sum-fits-requires
+    (λ c κs. search needs)
     returns-5
-    can-store-requires
+    (λ c κs. search needs)
     returns-6
     store-requires
-    same-length
+    (λ c. search needs)
     returns-7)

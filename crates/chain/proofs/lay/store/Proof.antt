@@ -19,43 +19,15 @@ Inv-loop regions mem₀ desc-table places addrs lens flags k₀ mem k = (k ≤ l
 abbrev μ-loop : tie.MeasureT-loop
 μ-loop regions mem₀ desc-table places addrs lens flags k₀ mem k = length places - k
 
--- src/lay.rt:162:5
 loop-holds : tie.Need-loop-holds Inv-loop μ-loop
 loop-holds c = (search needs, refl, stored-begin _ _ _ _ _)
 
--- src/lay.rt:163:13
 link-requires : tie.Need-link-requires Inv-loop μ-loop
 link-requires c κs = same-in (listed (c .before .before .before .before .before .before .before .before .args .places .now) (c .before .before .before .before .before .before .before .before .args .addrs .now) (c .before .before .before .before .before .before .before .before .args .lens .now) (c .before .before .before .before .before .before .before .before .args .flags .now)) (c .before .loop .k) (c .before .before .before .before .before .before .before .before .pre) (omega arith)
 
--- src/lay.rt:164:58
-mul-write-descriptor : tie.Need-mul-write-descriptor Inv-loop μ-loop
-mul-write-descriptor c = search needs
-
--- src/lay.rt:164:58
-shared-slice-read-write-descriptor : tie.Need-shared-slice-read-write-descriptor Inv-loop μ-loop
-shared-slice-read-write-descriptor c = search needs
-
--- src/lay.rt:164:9
-write-descriptor-requires : tie.Need-write-descriptor-requires Inv-loop μ-loop
-write-descriptor-requires c κs = search needs
-
--- src/lay.rt:165:9
-add-k : tie.Need-add-k Inv-loop μ-loop
-add-k c = search needs
-
--- src/lay.rt:162:5
-loop-less : tie.Need-loop-less Inv-loop μ-loop
-loop-less c = search needs
-
--- src/lay.rt:162:5
 loop-again : tie.Need-loop-again Inv-loop μ-loop
 loop-again c = (search needs, wrote-length _ _ _ _ _ _ (c .before .before .write-descriptor .ensures) ∙ c .before .before .before .before .before .before .before .loop .inv .1, stored-on (c .before .before .before .before .before .before .before .before .before .before .before .before .before .before .args .regions .now) (c .before .before .before .before .before .before .before .before .before .before .before .before .before .before .args .desc-table) (listed (c .before .before .before .before .before .before .before .before .before .before .before .before .before .before .args .places .now) (c .before .before .before .before .before .before .before .before .before .before .before .before .before .before .args .addrs .now) (c .before .before .before .before .before .before .before .before .before .before .before .before .before .before .args .lens .now) (c .before .before .before .before .before .before .before .before .before .before .before .before .before .before .args .flags .now)) (length (c .before .before .before .before .before .before .before .before .before .before .before .before .before .before .args .places .now)) (c .before .before .before .before .before .before .before .loop .k) (c .before .before .before .before .before .before .before .before .before .before .before .before .before .before .args .mem .now) (c .before .before .before .before .before .before .before .loop .mem) (c .before .before .before .before .before .before .before .loop .inv .2) _ _ _ (omega arith) (c .before .before .before .before .before .link .ensures) (c .before .before .write-descriptor .ensures))
 
--- src/lay.rt:157:1
-same-length : tie.Need-same-length Inv-loop μ-loop
-same-length c = search needs
-
--- src/lay.rt:157:1
 returns : tie.Need-returns Inv-loop μ-loop
 returns c = stored-end (c .before .before .before .before .before .before .before .before .args .regions .now) (c .before .before .before .before .before .before .before .before .args .desc-table) (listed (c .before .before .before .before .before .before .before .before .args .places .now) (c .before .before .before .before .before .before .before .before .args .addrs .now) (c .before .before .before .before .before .before .before .before .args .lens .now) (c .before .before .before .before .before .before .before .before .args .flags .now)) (length (c .before .before .before .before .before .before .before .before .args .places .now)) (c .before .loop .k) (c .before .before .before .before .before .before .before .before .args .mem .now) (c .before .loop .mem) (c .before .loop .inv .2) (omega arith)
 
@@ -67,11 +39,11 @@ store-spec =
     μ-loop
     loop-holds
     link-requires
-    mul-write-descriptor
-    shared-slice-read-write-descriptor
-    write-descriptor-requires
-    add-k
-    loop-less
+    (λ c. search needs)
+    (λ c. search needs)
+    (λ c κs. search needs)
+    (λ c. search needs)
+    (λ c. search needs)
     loop-again
-    same-length
+    (λ c. search needs)
     returns)

@@ -16,43 +16,15 @@ Inv-loop lens sum₀ k₀ sum k = (k ≤ length lens) × (sum ≤ 4294967295) ×
 abbrev μ-loop : tie.MeasureT-loop
 μ-loop lens sum₀ k₀ sum k = length lens - k
 
--- src/lay.rt:131:5
 loop-holds : tie.Need-loop-holds Inv-loop μ-loop
 loop-holds c = (search needs, search needs, sums-begin _ _)
 
--- src/lay.rt:132:19
-mul-len : tie.Need-mul-len Inv-loop μ-loop
-mul-len c = search needs
-
--- src/lay.rt:132:19
-shared-slice-read-len : tie.Need-shared-slice-read-len Inv-loop μ-loop
-shared-slice-read-len c = search needs
-
--- src/lay.rt:133:12
-sub-if1 : tie.Need-sub-if1 Inv-loop μ-loop
-sub-if1 c = search needs
-
--- src/lay.rt:134:13
 returns : tie.Need-returns Inv-loop μ-loop
 returns c = sums-past (c .before .before .before .before .args .lens .now) (length (c .before .before .before .before .args .lens .now)) (c .before .before .before .loop .k) (c .before .before .before .loop .sum) (c .before .before .before .loop .inv .2) (omega arith) (omega arith)
 
--- src/lay.rt:136:9
-add-sum : tie.Need-add-sum Inv-loop μ-loop
-add-sum c = search needs
-
--- src/lay.rt:137:9
-add-k : tie.Need-add-k Inv-loop μ-loop
-add-k c = search needs
-
--- src/lay.rt:131:5
-loop-less : tie.Need-loop-less Inv-loop μ-loop
-loop-less c = search needs
-
--- src/lay.rt:131:5
 loop-again : tie.Need-loop-again Inv-loop μ-loop
 loop-again c = (search needs, search needs, sums-on (c .before .before .before .before .args .lens .now) (length (c .before .before .before .before .args .lens .now)) (c .before .before .before .loop .k) (c .before .before .before .loop .sum) (c .before .before .before .loop .inv .2) (omega arith))
 
--- src/lay.rt:126:1
 returns-2 : tie.Need-returns-2 Inv-loop μ-loop
 returns-2 c = sums-end (c .before .before .args .lens .now) (length (c .before .before .args .lens .now)) (c .before .loop .k) (c .before .loop .sum) (c .before .loop .inv .2) (omega arith) (omega arith)
 
@@ -63,12 +35,12 @@ sum-fits-spec =
     Inv-loop
     μ-loop
     loop-holds
-    mul-len
-    shared-slice-read-len
-    sub-if1
+    (λ c. search needs)
+    (λ c. search needs)
+    (λ c. search needs)
     returns
-    add-sum
-    add-k
-    loop-less
+    (λ c. search needs)
+    (λ c. search needs)
+    (λ c. search needs)
     loop-again
     returns-2)

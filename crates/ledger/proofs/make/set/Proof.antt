@@ -13,42 +13,6 @@ use Rattle.queue.proofs.Queue.set_ready.Reads as set-ready-reads
 use Rattle.queue.proofs.Queue.set_size.Reads as set-size-reads
 use Rattle.queue.proofs.Queue.set_used_ring_address.Reads as set-used-ring-address-reads
 
-enum-known-setting : tie.Need-enum-known-setting
-enum-known-setting c = search needs
-
-set-size-requires : tie.Need-set-size-requires
-set-size-requires c κs = search needs
-
-enum-known-setting-2 : tie.Need-enum-known-setting-2
-enum-known-setting-2 c = search needs
-
-set-desc-table-address-requires : tie.Need-set-desc-table-address-requires
-set-desc-table-address-requires c κs = search needs
-
-enum-known-setting-3 : tie.Need-enum-known-setting-3
-enum-known-setting-3 c = search needs
-
-set-avail-ring-address-requires : tie.Need-set-avail-ring-address-requires
-set-avail-ring-address-requires c κs = search needs
-
-enum-known-setting-4 : tie.Need-enum-known-setting-4
-enum-known-setting-4 c = search needs
-
-set-used-ring-address-requires : tie.Need-set-used-ring-address-requires
-set-used-ring-address-requires c κs = search needs
-
-enum-known-setting-5 : tie.Need-enum-known-setting-5
-enum-known-setting-5 c = search needs
-
-set-ready-requires : tie.Need-set-ready-requires
-set-ready-requires c κs = search needs
-
-enum-known-setting-6 : tie.Need-enum-known-setting-6
-enum-known-setting-6 c = search needs
-
-set-event-idx-requires : tie.Need-set-event-idx-requires
-set-event-idx-requires c κs = search needs
-
 returns : tie.Need-returns
 returns c = rw (c .before .before .setting .given .1) (c .set-size .ensures)
 
@@ -71,18 +35,18 @@ pub set-spec : {M : Type 1} → statement M
 set-spec =
     tie.close
     (tie.spec
-    enum-known-setting
-    set-size-requires
-    enum-known-setting-2
-    set-desc-table-address-requires
-    enum-known-setting-3
-    set-avail-ring-address-requires
-    enum-known-setting-4
-    set-used-ring-address-requires
-    enum-known-setting-5
-    set-ready-requires
-    enum-known-setting-6
-    set-event-idx-requires
+    (λ c. search needs)
+    (λ c κs. search needs)
+    (λ c. search needs)
+    (λ c κs. search needs)
+    (λ c. search needs)
+    (λ c κs. search needs)
+    (λ c. search needs)
+    (λ c κs. search needs)
+    (λ c. search needs)
+    (λ c κs. search needs)
+    (λ c. search needs)
+    (λ c κs. search needs)
     returns
     returns-2
     returns-3

@@ -9,14 +9,8 @@ use Rattle.ledger.proofs.number.call_of.Lts as lts
 use Rattle.ledger.proofs.number.ring_call_of.Reads as ring-call-of-reads
 use Rattle.ledger.proofs.number.setting_of.Reads as setting-of-reads
 
-setting-of-requires : tie.Need-setting-of-requires
-setting-of-requires c κs = search needs
-
 returns : tie.Need-returns
 returns c = call-setting _ _ _ (c .before .if1 .taken) (c .setting-of .ensures)
-
-ring-call-of-requires : tie.Need-ring-call-of-requires
-ring-call-of-requires c κs = search needs
 
 returns-2 : tie.Need-returns-2
 unfolding callOf
@@ -45,9 +39,9 @@ pub call-of-spec : {M : Type 1} → statement M
 call-of-spec =
     tie.close
     (tie.spec
-    setting-of-requires
+    (λ c κs. search needs)
     returns
-    ring-call-of-requires
+    (λ c κs. search needs)
     returns-2
     returns-3
     returns-4

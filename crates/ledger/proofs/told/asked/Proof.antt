@@ -7,18 +7,6 @@ use Rattle.ledger.proofs.told.asked.Lts as lts
 use Rattle.ledger.proofs.told.refused.Reads as refused-reads
 use Rattle.ledger.proofs.told.yes_or_no.Reads as yes-or-no-reads
 
-enum-known-got : tie.Need-enum-known-got
-enum-known-got c = search needs
-
-yes-or-no-requires : tie.Need-yes-or-no-requires
-yes-or-no-requires c κs = search needs
-
-enum-known-got-2 : tie.Need-enum-known-got-2
-enum-known-got-2 c = search needs
-
-refused-requires : tie.Need-refused-requires
-refused-requires c κs = search needs
-
 returns : tie.Need-returns
 returns c = rw (c .before .before .got .given .1) (c .yes-or-no .ensures)
 
@@ -29,9 +17,9 @@ pub asked-spec : {M : Type 1} → statement M
 asked-spec =
     tie.close
     (tie.spec
-    enum-known-got
-    yes-or-no-requires
-    enum-known-got-2
-    refused-requires
+    (λ c. search needs)
+    (λ c κs. search needs)
+    (λ c. search needs)
+    (λ c κs. search needs)
     returns
     returns-2)

@@ -7,18 +7,6 @@ use Rattle.ledger.proofs.told.placed.Lts as lts
 use Rattle.ledger.proofs.told.done.Reads as done-reads
 use Rattle.ledger.proofs.told.refused.Reads as refused-reads
 
-enum-known-got : tie.Need-enum-known-got
-enum-known-got c = search needs
-
-done-requires : tie.Need-done-requires
-done-requires c κs = search needs
-
-enum-known-got-2 : tie.Need-enum-known-got-2
-enum-known-got-2 c = search needs
-
-refused-requires : tie.Need-refused-requires
-refused-requires c κs = search needs
-
 returns : tie.Need-returns
 returns c = rw (c .before .before .got .given .1) (c .done .ensures)
 
@@ -28,4 +16,4 @@ returns-2 c = rw (c .before .before .got2 .given .1) (c .refused .ensures)
 pub placed-spec : {M : Type 1} → statement M
 placed-spec =
     tie.close
-    (tie.spec enum-known-got done-requires enum-known-got-2 refused-requires returns returns-2)
+    (tie.spec (λ c. search needs) (λ c κs. search needs) (λ c. search needs) (λ c κs. search needs) returns returns-2)

@@ -7,18 +7,6 @@ use Rattle.ledger.proofs.told.stopped.Lts as lts
 use Rattle.ledger.proofs.told.done.Reads as done-reads
 use Rattle.ledger.proofs.told.refused.Reads as refused-reads
 
-enum-told : tie.Need-enum-told
-enum-told c = search needs
-
-done-requires : tie.Need-done-requires
-done-requires c κs = search needs
-
-enum-known-got : tie.Need-enum-known-got
-enum-known-got c = search needs
-
-refused-requires : tie.Need-refused-requires
-refused-requires c κs = search needs
-
 returns : tie.Need-returns
 returns c = rw (c .before .enum-told .given .1) (c .done .ensures)
 
@@ -27,4 +15,4 @@ returns-2 c = rw (c .before .before .got .given .1) (c .refused .ensures)
 
 pub stopped-spec : {M : Type 1} → statement M
 stopped-spec =
-    tie.close (tie.spec enum-told done-requires enum-known-got refused-requires returns returns-2)
+    tie.close (tie.spec (λ c. search needs) (λ c κs. search needs) (λ c. search needs) (λ c κs. search needs) returns returns-2)

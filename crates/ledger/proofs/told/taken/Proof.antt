@@ -5,12 +5,6 @@ use Rattle.ledger.proofs.told.taken.Tie as tie
 use Rattle.ledger.proofs.told.taken.Reads as reads
 use Rattle.ledger.proofs.told.taken.Lts as lts
 
-enum-known-got : tie.Need-enum-known-got
-enum-known-got c = search needs
-
-enum-told : tie.Need-enum-told
-enum-told c = search needs
-
 returns : tie.Need-returns
 returns c = rw (c .before .got .given .1)
 
@@ -18,4 +12,4 @@ returns-2 : tie.Need-returns-2
 returns-2 c = rw (c .enum-told .given .1)
 
 pub taken-spec : {M : Type 1} → statement M
-taken-spec = tie.close (tie.spec enum-known-got enum-told returns returns-2)
+taken-spec = tie.close (tie.spec (λ c. search needs) (λ c. search needs) returns returns-2)

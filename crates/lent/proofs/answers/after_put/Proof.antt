@@ -3,15 +3,6 @@ use borrow.Author.Needs.{needs}
 use Rattle.lent.proofs.answers.after_put.Statement.{statement}
 use Rattle.lent.proofs.answers.after_put.Tie as tie
 
-enum-known-x : tie.Need-enum-known-x
-enum-known-x c = search needs
-
-flag-requires : tie.Need-flag-requires
-flag-requires c κs = search needs
-
-enum-told : tie.Need-enum-told
-enum-told c = search needs
-
 returns : tie.Need-returns
 returns c = rw (c .before .before .x .given .1, c .flag .ensures)
 
@@ -19,4 +10,4 @@ returns-2 : tie.Need-returns-2
 returns-2 c = rw (c .enum-told .given .1)
 
 pub after-put-spec : {M : Type 1} → statement M
-after-put-spec = tie.close (tie.spec enum-known-x flag-requires enum-told returns returns-2)
+after-put-spec = tie.close (tie.spec (λ c. search needs) (λ c κs. search needs) (λ c. search needs) returns returns-2)

@@ -3,15 +3,6 @@ use borrow.Author.Needs.{needs}
 use Rattle.lent.proofs.answers.of_configured.Statement.{statement}
 use Rattle.lent.proofs.answers.of_configured.Tie as tie
 
-enum-known-x : tie.Need-enum-known-x
-enum-known-x c = search needs
-
-enum-known-x-2 : tie.Need-enum-known-x-2
-enum-known-x-2 c = search needs
-
-error-code-requires : tie.Need-error-code-requires
-error-code-requires c κs = search needs
-
 returns : tie.Need-returns
 returns c = rw (c .before .x .given .1)
 
@@ -20,4 +11,4 @@ returns-2 c = rw (c .before .before .x2 .given .1, c .error-code .ensures)
 
 pub of-configured-spec : {M : Type 1} → statement M
 of-configured-spec =
-    tie.close (tie.spec enum-known-x enum-known-x-2 error-code-requires returns returns-2)
+    tie.close (tie.spec (λ c. search needs) (λ c. search needs) (λ c κs. search needs) returns returns-2)

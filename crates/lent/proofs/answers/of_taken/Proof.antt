@@ -3,20 +3,8 @@ use borrow.Author.Needs.{needs}
 use Rattle.lent.proofs.answers.of_taken.Statement.{statement}
 use Rattle.lent.proofs.answers.of_taken.Tie as tie
 
-enum-known-x : tie.Need-enum-known-x
-enum-known-x c = search needs
-
-cast-t5 : tie.Need-cast-t5
-cast-t5 c = search needs
-
-enum-told : tie.Need-enum-told
-enum-told c = search needs
-
 returns : tie.Need-returns
 returns c = rw (c .before .x .given .1)
 
-returns-2 : tie.Need-returns-2
-returns-2 c = search needs
-
 pub of-taken-spec : {M : Type 1} → statement M
-of-taken-spec = tie.close (tie.spec enum-known-x cast-t5 enum-told returns returns-2)
+of-taken-spec = tie.close (tie.spec (λ c. search needs) (λ c. search needs) (λ c. search needs) returns (λ c. search needs))

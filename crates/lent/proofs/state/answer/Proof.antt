@@ -3,17 +3,8 @@ use borrow.Author.Needs.{needs}
 use Rattle.lent.proofs.state.answer.Statement.{statement}
 use Rattle.lent.proofs.state.answer.Tie as tie
 
-enum-known-x : tie.Need-enum-known-x
-enum-known-x c = search needs
-
-enum-known-x-2 : tie.Need-enum-known-x-2
-enum-known-x-2 c = search needs
-
 returns : tie.Need-returns
 returns c = rw (c .before .x .given .1)
 
-returns-2 : tie.Need-returns-2
-returns-2 c = search needs
-
 pub answer-spec : {M : Type 1} → statement M
-answer-spec = tie.close (tie.spec enum-known-x enum-known-x-2 returns returns-2)
+answer-spec = tie.close (tie.spec (λ c. search needs) (λ c. search needs) returns (λ c. search needs))

@@ -5,42 +5,6 @@ use borrow.Author.Needs.{needs}
 use Rattle.lent.proofs.state.fields_fit.Statement.{statement}
 use Rattle.lent.proofs.state.fields_fit.Tie as tie
 
-shared-slice-read-larger-of : tie.Need-shared-slice-read-larger-of
-shared-slice-read-larger-of c = search needs
-
-shared-slice-read-larger-of-2 : tie.Need-shared-slice-read-larger-of-2
-shared-slice-read-larger-of-2 c = search needs
-
-larger-of-requires : tie.Need-larger-of-requires
-larger-of-requires c κs = search needs
-
-shared-slice-read-larger-of-3 : tie.Need-shared-slice-read-larger-of-3
-shared-slice-read-larger-of-3 c = search needs
-
-shared-slice-read-larger-of-4 : tie.Need-shared-slice-read-larger-of-4
-shared-slice-read-larger-of-4 c = search needs
-
-larger-of-requires-2 : tie.Need-larger-of-requires-2
-larger-of-requires-2 c κs = search needs
-
-larger-of-requires-3 : tie.Need-larger-of-requires-3
-larger-of-requires-3 c κs = search needs
-
-shared-slice-read-larger-of-5 : tie.Need-shared-slice-read-larger-of-5
-shared-slice-read-larger-of-5 c = search needs
-
-larger-of-requires-4 : tie.Need-larger-of-requires-4
-larger-of-requires-4 c κs = search needs
-
-shared-slice-read-larger-of-6 : tie.Need-shared-slice-read-larger-of-6
-shared-slice-read-larger-of-6 c = search needs
-
-shared-slice-read-larger-of-7 : tie.Need-shared-slice-read-larger-of-7
-shared-slice-read-larger-of-7 c = search needs
-
-larger-of-requires-5 : tie.Need-larger-of-requires-5
-larger-of-requires-5 c κs = search needs
-
 returns : tie.Need-returns
 returns c = rw (c .larger-of5 .ensures) (fits-flags _ (let h = c .before .before .before .if1 .taken in let e = c .before .before .before .before .larger-of4 .ensures in let f = c .before .before .before .before .before .before .larger-of3 .ensures in let g = c .before .before .before .before .before .before .before .larger-of2 .ensures in let i = c .before .before .before .before .before .before .before .before .before .before .larger-of .ensures in omega arith))
 
@@ -51,17 +15,17 @@ pub fields-fit-spec : {M : Type 1} → statement M
 fields-fit-spec =
     tie.close
     (tie.spec
-    shared-slice-read-larger-of
-    shared-slice-read-larger-of-2
-    larger-of-requires
-    shared-slice-read-larger-of-3
-    shared-slice-read-larger-of-4
-    larger-of-requires-2
-    larger-of-requires-3
-    shared-slice-read-larger-of-5
-    larger-of-requires-4
-    shared-slice-read-larger-of-6
-    shared-slice-read-larger-of-7
-    larger-of-requires-5
+    (λ c. search needs)
+    (λ c. search needs)
+    (λ c κs. search needs)
+    (λ c. search needs)
+    (λ c. search needs)
+    (λ c κs. search needs)
+    (λ c κs. search needs)
+    (λ c. search needs)
+    (λ c κs. search needs)
+    (λ c. search needs)
+    (λ c. search needs)
+    (λ c κs. search needs)
     returns
     returns-2)

@@ -10,9 +10,6 @@ use Rattle.lent.proofs.state.load.Tie as tie
 returns : tie.Need-returns
 returns c = load-short _ (omega arith)
 
-fields-fit-requires : tie.Need-fields-fit-requires
-fields-fit-requires c κs = search needs
-
 returns-2 : tie.Need-returns-2
 returns-2 c = load-unfit _ (omega arith) _ (c .before .fields-fit .ensures) (not-true _ (c .if2 .taken))
 
@@ -23,4 +20,4 @@ returns-3 : tie.Need-returns-3
 returns-3 c = load-good _ (omega arith) _ (c .before .before .fields-fit .ensures) (not-false _ (c .before .if2 .left)) _ (c .queue-in .ensures)
 
 pub load-spec : {M : Type 1} → statement M
-load-spec = tie.close (tie.spec returns fields-fit-requires returns-2 queue-in-requires returns-3)
+load-spec = tie.close (tie.spec returns (λ c κs. search needs) returns-2 queue-in-requires returns-3)

@@ -5,18 +5,6 @@ use borrow.Author.Needs.{needs}
 use Rattle.lent.proofs.state.settle.Statement.{statement}
 use Rattle.lent.proofs.state.settle.Tie as tie
 
-enum-known-x : tie.Need-enum-known-x
-enum-known-x c = search needs
-
-keep-requires : tie.Need-keep-requires
-keep-requires c κs = search needs
-
-enum-known-x-2 : tie.Need-enum-known-x-2
-enum-known-x-2 c = search needs
-
-same-length : tie.Need-same-length
-same-length c = search needs
-
 returns : tie.Need-returns
 returns c = settled-now _ _ _ _ (c .before .before .before .before .before .before .x .given .1) (omega arith) _ (c .before .before .keep .ensures)
 
@@ -29,4 +17,4 @@ returns-3 c = settled-same _ _ _ (c .before .x2 .given .1)
 pub settle-spec : {M : Type 1} → statement M
 settle-spec =
     tie.close
-    (tie.spec enum-known-x keep-requires enum-known-x-2 same-length returns returns-2 returns-3)
+    (tie.spec (λ c. search needs) (λ c κs. search needs) (λ c. search needs) (λ c. search needs) returns returns-2 returns-3)

@@ -8,23 +8,8 @@ use Rattle.queue.proofs.Queue.add_used.Tie as tie
 returns : tie.Need-returns
 returns c = put-beyond _ _ _ _ _ (c .if1 .taken)
 
-used-entry-offset-requires : tie.Need-used-entry-offset-requires
-used-entry-offset-requires c κs = search needs
-
-grown-queue-requires : tie.Need-grown-queue-requires
-grown-queue-requires c κs = search needs
-
-publish-used-requires : tie.Need-publish-used-requires
-publish-used-requires c κs = search needs
-
-same-length : tie.Need-same-length
-same-length c = search needs
-
 returns-2 : tie.Need-returns-2
 returns-2 c = placed-refused _ _ _ _ _ (c .before .before .before .before .before .before .before .if1 .left) _ (c .before .before .before .before .before .before .used-entry-offset .ensures) _ (c .before .before .before .before .before .grown-queue .ensures) _ _ (c .before .before .before .publish-used .ensures) (not-true _ (c .if2 .taken))
-
-same-length-2 : tie.Need-same-length-2
-same-length-2 c = search needs
 
 returns-3 : tie.Need-returns-3
 returns-3 c = placed-done _ _ _ _ _ (c .before .before .before .before .before .before .before .if1 .left) _ (c .before .before .before .before .before .before .used-entry-offset .ensures) _ (c .before .before .before .before .before .grown-queue .ensures) _ _ (c .before .before .before .publish-used .ensures) (not-false _ (c .if2 .left))
@@ -34,10 +19,10 @@ add-used-spec =
     tie.close
     (tie.spec
     returns
-    used-entry-offset-requires
-    grown-queue-requires
-    publish-used-requires
-    same-length
+    (λ c κs. search needs)
+    (λ c κs. search needs)
+    (λ c κs. search needs)
+    (λ c. search needs)
     returns-2
-    same-length-2
+    (λ c. search needs)
     returns-3)

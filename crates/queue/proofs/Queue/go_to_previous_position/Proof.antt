@@ -4,11 +4,8 @@ use Rattle.queue.specs.Avail.{back-is}
 use Rattle.queue.proofs.Queue.go_to_previous_position.Statement.{statement}
 use Rattle.queue.proofs.Queue.go_to_previous_position.Tie as tie
 
-minus-requires : tie.Need-minus-requires
-minus-requires c κs = search needs
-
 returns : tie.Need-returns
 returns c = back-is _ _ (c .minus .ensures)
 
 pub go-to-previous-position-spec : {M : Type 1} → statement M
-go-to-previous-position-spec = tie.close (tie.spec minus-requires returns)
+go-to-previous-position-spec = tie.close (tie.spec (λ c κs. search needs) returns)

@@ -12,14 +12,8 @@ returns c = sym (begin-not-ready _ _ _ (not-true _ (c .if1 .taken)))
 returns-2 : tie.Need-returns-2
 returns-2 c = sym (begin-no-ring _ _ _ (c .if2 .taken))
 
-avail-idx-requires : tie.Need-avail-idx-requires
-avail-idx-requires c κs = search needs
-
-begun-on-requires : tie.Need-begun-on-requires
-begun-on-requires c κs = search needs
-
 returns-3 : tie.Need-returns-3
 returns-3 c = begin-on _ _ _ (not-false _ (c .before .before .before .before .if1 .left)) (c .before .before .if2 .left) _ (c .before .avail-idx .ensures) _ (c .begun-on .ensures)
 
 pub iter-spec : {M : Type 1} → statement M
-iter-spec = tie.close (tie.spec returns returns-2 avail-idx-requires begun-on-requires returns-3)
+iter-spec = tie.close (tie.spec returns returns-2 (λ c κs. search needs) (λ c κs. search needs) returns-3)

@@ -9,19 +9,10 @@ use Rattle.queue.proofs.Queue.needs_notification.Tie as tie
 returns : tie.Need-returns
 returns c = sym (question-off _ _ _ (not-true _ (c .if1 .taken)))
 
-used-event-offset-requires : tie.Need-used-event-offset-requires
-used-event-offset-requires c κs = search needs
-
-read2-requires : tie.Need-read2-requires
-read2-requires c κs = search needs
-
-answered-on-requires : tie.Need-answered-on-requires
-answered-on-requires c κs = search needs
-
 returns-2 : tie.Need-returns-2
 returns-2 c = question-on _ _ _ (not-false _ (c .before .before .before .if1 .left)) _ (c .before .before .used-event-offset .ensures) _ (c .before .read2 .ensures) _ (c .answered-on .ensures)
 
 pub needs-notification-spec : {M : Type 1} → statement M
 needs-notification-spec =
     tie.close
-    (tie.spec returns used-event-offset-requires read2-requires answered-on-requires returns-2)
+    (tie.spec returns (λ c κs. search needs) (λ c κs. search needs) (λ c κs. search needs) returns-2)

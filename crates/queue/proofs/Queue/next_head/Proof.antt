@@ -11,15 +11,6 @@ returns c = sym (head-end _ _ _ _ (c .if1 .taken))
 returns-2 : tie.Need-returns-2
 returns-2 c = sym (head-no-place _ _ _ _ (c .if2 .taken))
 
-avail-entry-offset-requires : tie.Need-avail-entry-offset-requires
-avail-entry-offset-requires c κs = search needs
-
-read2-requires : tie.Need-read2-requires
-read2-requires c κs = search needs
-
-taken-on-requires : tie.Need-taken-on-requires
-taken-on-requires c κs = search needs
-
 returns-3 : tie.Need-returns-3
 returns-3 c = head-on _ _ _ _ (c .before .before .before .before .before .if1 .left) (c .before .before .before .if2 .left) _ (c .before .before .avail-entry-offset .ensures) _ (c .before .read2 .ensures) _ (c .taken-on .ensures)
 
@@ -29,7 +20,7 @@ next-head-spec =
     (tie.spec
     returns
     returns-2
-    avail-entry-offset-requires
-    read2-requires
-    taken-on-requires
+    (λ c κs. search needs)
+    (λ c κs. search needs)
+    (λ c κs. search needs)
     returns-3)

@@ -4,11 +4,8 @@ use Rattle.queue.specs.Config.{reset-is}
 use Rattle.queue.proofs.Queue.reset.Statement.{statement}
 use Rattle.queue.proofs.Queue.reset.Tie as tie
 
-fresh-queue-requires : tie.Need-fresh-queue-requires
-fresh-queue-requires c κs = search needs
-
 returns : tie.Need-returns
 returns c = reset-is _ _ (c .fresh-queue .ensures)
 
 pub reset-spec : {M : Type 1} → statement M
-reset-spec = tie.close (tie.spec fresh-queue-requires returns)
+reset-spec = tie.close (tie.spec (λ c κs. search needs) returns)

@@ -4,9 +4,6 @@ use Rattle.queue.specs.Config.{setDescTable-refused, setDescTable-set}
 use Rattle.queue.proofs.Queue.set_desc_table_address.Statement.{statement}
 use Rattle.queue.proofs.Queue.set_desc_table_address.Tie as tie
 
-whole-requires : tie.Need-whole-requires
-whole-requires c κs = search needs
-
 returns : tie.Need-returns
 returns c = setDescTable-refused _ _ _ _ (c .before .whole .ensures) (c .if1 .taken)
 
@@ -14,4 +11,4 @@ returns-2 : tie.Need-returns-2
 returns-2 c = setDescTable-set _ _ _ _ (c .before .whole .ensures) (c .if1 .left)
 
 pub set-desc-table-address-spec : {M : Type 1} → statement M
-set-desc-table-address-spec = tie.close (tie.spec whole-requires returns returns-2)
+set-desc-table-address-spec = tie.close (tie.spec (λ c κs. search needs) returns returns-2)

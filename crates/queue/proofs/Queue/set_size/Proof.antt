@@ -5,9 +5,6 @@ use Rattle.queue.specs.Config.{setSize-refused, setSize-set}
 use Rattle.queue.proofs.Queue.set_size.Statement.{statement}
 use Rattle.queue.proofs.Queue.set_size.Tie as tie
 
-good-size-requires : tie.Need-good-size-requires
-good-size-requires c κs = search needs
-
 returns : tie.Need-returns
 returns c = setSize-refused _ _ _ (c .before .good-size .ensures) (not-true _ (c .if1 .taken))
 
@@ -15,4 +12,4 @@ returns-2 : tie.Need-returns-2
 returns-2 c = setSize-set _ _ _ (c .before .good-size .ensures) (not-false _ (c .if1 .left))
 
 pub set-size-spec : {M : Type 1} → statement M
-set-size-spec = tie.close (tie.spec good-size-requires returns returns-2)
+set-size-spec = tie.close (tie.spec (λ c κs. search needs) returns returns-2)

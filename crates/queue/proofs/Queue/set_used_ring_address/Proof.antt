@@ -4,9 +4,6 @@ use Rattle.queue.specs.Config.{setUsedRing-refused, setUsedRing-set}
 use Rattle.queue.proofs.Queue.set_used_ring_address.Statement.{statement}
 use Rattle.queue.proofs.Queue.set_used_ring_address.Tie as tie
 
-whole-requires : tie.Need-whole-requires
-whole-requires c κs = search needs
-
 returns : tie.Need-returns
 returns c = setUsedRing-refused _ _ _ _ (c .before .whole .ensures) (c .if1 .taken)
 
@@ -14,4 +11,4 @@ returns-2 : tie.Need-returns-2
 returns-2 c = setUsedRing-set _ _ _ _ (c .before .whole .ensures) (c .if1 .left)
 
 pub set-used-ring-address-spec : {M : Type 1} → statement M
-set-used-ring-address-spec = tie.close (tie.spec whole-requires returns returns-2)
+set-used-ring-address-spec = tie.close (tie.spec (λ c κs. search needs) returns returns-2)

@@ -4,15 +4,6 @@ use Rattle.queue.specs.Avail.{begun-pass, begun-far, begun-fault}
 use Rattle.queue.proofs.avail.begun_on.Statement.{statement}
 use Rattle.queue.proofs.avail.begun_on.Tie as tie
 
-enum-known-got : tie.Need-enum-known-got
-enum-known-got c = search needs
-
-minus-requires : tie.Need-minus-requires
-minus-requires c κs = search needs
-
-enum-told : tie.Need-enum-told
-enum-told c = search needs
-
 returns : tie.Need-returns
 returns c = begun-pass _ _ _ _ (c .before .before .before .before .got .given .1) (c .before .before .minus .ensures) (c .if1 .taken)
 
@@ -24,4 +15,4 @@ returns-3 c = begun-fault _ _ (c .enum-told .given .1)
 
 pub begun-on-spec : {M : Type 1} → statement M
 begun-on-spec =
-    tie.close (tie.spec enum-known-got minus-requires enum-told returns returns-2 returns-3)
+    tie.close (tie.spec (λ c. search needs) (λ c κs. search needs) (λ c. search needs) returns returns-2 returns-3)

@@ -4,20 +4,8 @@ use native.Mathlib.Omega.{arith}
 use Rattle.queue.proofs.config.low_half.Statement.{statement}
 use Rattle.queue.proofs.config.low_half.Tie as tie
 
-enum-known-half : tie.Need-enum-known-half
-enum-known-half c = search needs
-
-cast-result : tie.Need-cast-result
-cast-result c = search needs
-
-enum-told : tie.Need-enum-told
-enum-told c = search needs
-
-returns : tie.Need-returns
-returns c = search needs
-
 returns-2 : tie.Need-returns-2
 returns-2 c = (rw (c .enum-told .given .1), omega arith)
 
 pub low-half-spec : {M : Type 1} → statement M
-low-half-spec = tie.close (tie.spec enum-known-half cast-result enum-told returns returns-2)
+low-half-spec = tie.close (tie.spec (λ c. search needs) (λ c. search needs) (λ c. search needs) (λ c. search needs) returns-2)

@@ -5,15 +5,6 @@ use Rattle.queue.specs.Notify.{answered-value}
 use Rattle.queue.proofs.notify.answered_on.Statement.{statement}
 use Rattle.queue.proofs.notify.answered_on.Tie as tie
 
-enum-known-got : tie.Need-enum-known-got
-enum-known-got c = search needs
-
-event-passed-requires : tie.Need-event-passed-requires
-event-passed-requires c κs = search needs
-
-enum-told : tie.Need-enum-told
-enum-told c = search needs
-
 returns : tie.Need-returns
 returns c = answered-value _ _ _ _ (c .before .before .got .given .1) (c .event-passed .ensures)
 
@@ -22,4 +13,4 @@ returns-2 c = answered-fault _ _ (c .enum-told .given .1)
 
 pub answered-on-spec : {M : Type 1} → statement M
 answered-on-spec =
-    tie.close (tie.spec enum-known-got event-passed-requires enum-told returns returns-2)
+    tie.close (tie.spec (λ c. search needs) (λ c κs. search needs) (λ c. search needs) returns returns-2)

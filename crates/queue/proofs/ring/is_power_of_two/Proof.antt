@@ -9,11 +9,8 @@ use Rattle.queue.proofs.ring.is_power_of_two.Tie as tie
 returns : tie.Need-returns
 returns c = sym (power-zero _ (c .if1 .taken))
 
-sub-result : tie.Need-sub-result
-sub-result c = search needs
-
 returns-2 : tie.Need-returns-2
 returns-2 c = power-test (c .before .args .n) (omega arith) (omega arith)
 
 pub is-power-of-two-spec : {M : Type 1} → statement M
-is-power-of-two-spec = tie.close (tie.spec returns sub-result returns-2)
+is-power-of-two-spec = tie.close (tie.spec returns (λ c. search needs) returns-2)

@@ -5,11 +5,8 @@ use Rattle.queue.specs.Wrap.{is-sub16}
 use Rattle.queue.proofs.ring.minus.Statement.{statement}
 use Rattle.queue.proofs.ring.minus.Tie as tie
 
-wrapping-sub-u16-requires : tie.Need-wrapping-sub-u16-requires
-wrapping-sub-u16-requires c κs = search needs
-
 returns : tie.Need-returns
 returns c = is-sub16 _ _ _ (omega arith) (c .wrapping-sub-u16 .ensures)
 
 pub minus-spec : {M : Type 1} → statement M
-minus-spec = tie.close (tie.spec wrapping-sub-u16-requires returns)
+minus-spec = tie.close (tie.spec (λ c κs. search needs) returns)

@@ -6,17 +6,11 @@ use Rattle.queue.specs.Size.{place-mask, place-some}
 use Rattle.queue.proofs.ring.ring_place.Statement.{statement}
 use Rattle.queue.proofs.ring.ring_place.Tie as tie
 
-minus-requires : tie.Need-minus-requires
-minus-requires c κs = search needs
-
 returns : tie.Need-returns
 returns c = place-mask (c .before .before .args .index) (c .before .before .args .size) _ (omega arith) (omega arith) (c .before .minus .ensures) (c .if1 .taken)
 
 rem-result : tie.Need-rem-result
 rem-result c = let h : 0 < c .before .before .args .size = place-some (c .before .before .args .size) (c .before .minus .result) (c .if1 .left) in search needs
 
-returns-2 : tie.Need-returns-2
-returns-2 c = search needs
-
 pub ring-place-spec : {M : Type 1} → statement M
-ring-place-spec = tie.close (tie.spec minus-requires returns rem-result returns-2)
+ring-place-spec = tie.close (tie.spec (λ c κs. search needs) returns rem-result (λ c. search needs))

@@ -16,37 +16,8 @@ Inv-loop from part₀ i₀ part i = length part ≡ length part₀
 abbrev μ-loop : tie.MeasureT-loop
 μ-loop from part₀ i₀ part i = length part₀ - i
 
--- src/guest.rt:163:5
-loop-holds : tie.Need-loop-holds Inv-loop μ-loop
-loop-holds c = search needs
-
--- src/guest.rt:164:19
-byte-at-requires : tie.Need-byte-at-requires Inv-loop μ-loop
-byte-at-requires c κs = search needs
-
--- src/guest.rt:164:9
-slice-write-part : tie.Need-slice-write-part Inv-loop μ-loop
-slice-write-part c = search needs
-
--- src/guest.rt:165:9
-add-i : tie.Need-add-i Inv-loop μ-loop
-add-i c = search needs
-
--- src/guest.rt:163:5
-loop-less : tie.Need-loop-less Inv-loop μ-loop
-loop-less c = search needs
-
--- src/guest.rt:163:5
 loop-again : tie.Need-loop-again Inv-loop μ-loop
 loop-again c = simp length-set (omega arith)
-
--- src/guest.rt:161:1
-same-length : tie.Need-same-length Inv-loop μ-loop
-same-length c = search needs
-
--- src/guest.rt:161:1
-returns : tie.Need-returns Inv-loop μ-loop
-returns c = search needs
 
 pub copy-bytes-spec : {M : Type 1} → statement M
 copy-bytes-spec =
@@ -54,11 +25,11 @@ copy-bytes-spec =
     (tie.spec
     Inv-loop
     μ-loop
-    loop-holds
-    byte-at-requires
-    slice-write-part
-    add-i
-    loop-less
+    (λ c. search needs)
+    (λ c κs. search needs)
+    (λ c. search needs)
+    (λ c. search needs)
+    (λ c. search needs)
     loop-again
-    same-length
-    returns)
+    (λ c. search needs)
+    (λ c. search needs))

@@ -13,18 +13,6 @@ returns c = sym (ap commandOf (wordBytes-past _ _ _ (c .if1 .taken)) ∙ command
 returns-2 : tie.Need-returns-2
 returns-2 c = sym (ap commandOf (wordBytes-empty _ _ _ (c .before .if1 .left) (c .if2 .taken)) ∙ commandOf-nothing)
 
-sub-command-of : tie.Need-sub-command-of
-sub-command-of c = search needs
-
-part-command-of-start : tie.Need-part-command-of-start
-part-command-of-start c = search needs
-
-part-command-of-end : tie.Need-part-command-of-end
-part-command-of-end c = search needs
-
-command-of-requires : tie.Need-command-of-requires
-command-of-requires c κs = search needs
-
 returns-3 : tie.Need-returns-3
 returns-3 c = c .command-of .ensures ∙ sym (ap commandOf (wordBytes-part _ _ _ (c .before .before .before .if1 .left)))
 
@@ -34,8 +22,8 @@ command-at-spec =
     (tie.spec
     returns
     returns-2
-    sub-command-of
-    part-command-of-start
-    part-command-of-end
-    command-of-requires
+    (λ c. search needs)
+    (λ c. search needs)
+    (λ c. search needs)
+    (λ c κs. search needs)
     returns-3)

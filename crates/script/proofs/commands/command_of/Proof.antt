@@ -8,19 +8,10 @@ use borrow.Author.Needs.{needs}
 use Rattle.script.proofs.commands.command_of.Statement.{statement}
 use Rattle.script.proofs.commands.command_of.Tie as tie
 
-slice-aggregate-place-of : tie.Need-slice-aggregate-place-of
-slice-aggregate-place-of c = search needs
-
-place-of-requires : tie.Need-place-of-requires
-place-of-requires c κs = search needs
-
-nth-requires : tie.Need-nth-requires
-nth-requires c κs = search needs
-
 returns : tie.Need-returns
 unfolding table textBytes namesOf namesIn
 returns c = c .nth .ensures ∙ sym (commandOf-place _ _ _ refl (c .before .place-of .ensures))
 
 pub command-of-spec : {M : Type 1} → statement M
 command-of-spec =
-    tie.close (tie.spec slice-aggregate-place-of place-of-requires nth-requires returns)
+    tie.close (tie.spec (λ c. search needs) (λ c κs. search needs) (λ c κs. search needs) returns)

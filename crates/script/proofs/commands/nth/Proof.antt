@@ -7,9 +7,6 @@ use borrow.Author.Needs.{needs}
 use Rattle.script.proofs.commands.nth.Statement.{statement}
 use Rattle.script.proofs.commands.nth.Tie as tie
 
-array-copy-out-result : tie.Need-array-copy-out-result
-array-copy-out-result c = search needs
-
 returns : tie.Need-returns
 unfolding commandsOf table
 returns c = getD-inside (commandsOf table) _ _ _ (c .before .if1 .taken)
@@ -18,4 +15,4 @@ returns-2 : tie.Need-returns-2
 returns-2 c = sym (commandsOf-past _ (c .if1 .left))
 
 pub nth-spec : {M : Type 1} → statement M
-nth-spec = tie.close (tie.spec array-copy-out-result returns returns-2)
+nth-spec = tie.close (tie.spec (λ c. search needs) returns returns-2)

@@ -5,19 +5,10 @@ use borrow.Author.Needs.{needs}
 use Rattle.script.proofs.crc.crc32.Statement.{statement}
 use Rattle.script.proofs.crc.crc32.Tie as tie
 
-crc-start-requires : tie.Need-crc-start-requires
-crc-start-requires c κs = search needs
-
-crc-more-requires : tie.Need-crc-more-requires
-crc-more-requires c κs = search needs
-
-crc-end-requires : tie.Need-crc-end-requires
-crc-end-requires c κs = search needs
-
 returns : tie.Need-returns
 returns c =
     crcOf-steps (c .before .before .crc-start .result) (c .before .crc-more .result) _ _ (c .before .before .crc-start .ensures)
     (c .before .crc-more .ensures) (c .crc-end .ensures)
 
 pub crc32-spec : {M : Type 1} → statement M
-crc32-spec = tie.close (tie.spec crc-start-requires crc-more-requires crc-end-requires returns)
+crc32-spec = tie.close (tie.spec (λ c κs. search needs) (λ c κs. search needs) (λ c κs. search needs) returns)

@@ -7,15 +7,9 @@ use borrow.Author.Needs.{needs}
 use Rattle.script.proofs.crc.crc_more.Statement.{statement}
 use Rattle.script.proofs.crc.crc_more.Tie as tie
 
-slice-aggregate-crc-by : tie.Need-slice-aggregate-crc-by
-slice-aggregate-crc-by c = search needs
-
 crc-by-requires : tie.Need-crc-by-requires
 unfolding byteTable tabled bitsOut bitOut
 crc-by-requires c κs = refl
 
-returns : tie.Need-returns
-returns c = search needs
-
 pub crc-more-spec : {M : Type 1} → statement M
-crc-more-spec = tie.close (tie.spec slice-aggregate-crc-by crc-by-requires returns)
+crc-more-spec = tie.close (tie.spec (λ c. search needs) crc-by-requires (λ c. search needs))

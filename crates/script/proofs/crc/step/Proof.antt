@@ -8,15 +8,6 @@ use borrow.Author.Needs.{needs}
 use Rattle.script.proofs.crc.step.Statement.{statement}
 use Rattle.script.proofs.crc.step.Tie as tie
 
-wide-requires : tie.Need-wide-requires
-wide-requires c κs = search needs
-
-cast-result : tie.Need-cast-result
-cast-result c = search needs
-
-mul-result : tie.Need-mul-result
-mul-result c = search needs
-
 shared-slice-read-result : tie.Need-shared-slice-read-result
 shared-slice-read-result c = omega (arith, byteTable-length _ (c .before .before .before .pre))
 
@@ -25,4 +16,4 @@ returns c = by-table _ _ _ (c .before .before .before .pre) ∙ ap (crcByte _) (
 
 pub step-spec : {M : Type 1} → statement M
 step-spec =
-    tie.close (tie.spec wide-requires cast-result mul-result shared-slice-read-result returns)
+    tie.close (tie.spec (λ c κs. search needs) (λ c. search needs) (λ c. search needs) shared-slice-read-result returns)

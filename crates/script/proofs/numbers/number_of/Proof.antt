@@ -6,17 +6,8 @@ use borrow.Author.Needs.{needs}
 use Rattle.script.proofs.numbers.number_of.Statement.{statement}
 use Rattle.script.proofs.numbers.number_of.Tie as tie
 
-hexadecimal-requires : tie.Need-hexadecimal-requires
-hexadecimal-requires c κs = search needs
-
-value-of-requires : tie.Need-value-of-requires
-value-of-requires c κs = search needs
-
 returns : tie.Need-returns
 returns c = c .value-of .ensures ∙ sym (numberOf-hexadecimal _ (sym (c .before .before .hexadecimal .ensures) ∙ c .before .if1 .taken))
-
-value-of-requires-2 : tie.Need-value-of-requires-2
-value-of-requires-2 c κs = search needs
 
 returns-2 : tie.Need-returns-2
 returns-2 c = c .value-of2 .ensures ∙ sym (numberOf-decimal _ (sym (c .before .before .hexadecimal .ensures) ∙ c .before .if1 .left))
@@ -24,4 +15,4 @@ returns-2 c = c .value-of2 .ensures ∙ sym (numberOf-decimal _ (sym (c .before 
 pub number-of-spec : {M : Type 1} → statement M
 number-of-spec =
     tie.close
-    (tie.spec hexadecimal-requires value-of-requires returns value-of-requires-2 returns-2)
+    (tie.spec (λ c κs. search needs) (λ c κs. search needs) returns (λ c κs. search needs) returns-2)

@@ -13,18 +13,6 @@ returns c = sym (ap numberOf (wordBytes-past _ _ _ (c .if1 .taken)) ∙ numberOf
 returns-2 : tie.Need-returns-2
 returns-2 c = sym (ap numberOf (wordBytes-empty _ _ _ (c .before .if1 .left) (c .if2 .taken)) ∙ numberOf-nothing)
 
-sub-number-of : tie.Need-sub-number-of
-sub-number-of c = search needs
-
-part-number-of-start : tie.Need-part-number-of-start
-part-number-of-start c = search needs
-
-part-number-of-end : tie.Need-part-number-of-end
-part-number-of-end c = search needs
-
-number-of-requires : tie.Need-number-of-requires
-number-of-requires c κs = search needs
-
 returns-3 : tie.Need-returns-3
 returns-3 c = c .number-of .ensures ∙ sym (ap numberOf (wordBytes-part _ _ _ (c .before .before .before .if1 .left)))
 
@@ -34,8 +22,8 @@ read-number-spec =
     (tie.spec
     returns
     returns-2
-    sub-number-of
-    part-number-of-start
-    part-number-of-end
-    number-of-requires
+    (λ c. search needs)
+    (λ c. search needs)
+    (λ c. search needs)
+    (λ c κs. search needs)
     returns-3)

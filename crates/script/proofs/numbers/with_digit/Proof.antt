@@ -7,12 +7,6 @@ use borrow.Author.Needs.{needs}
 use Rattle.script.proofs.numbers.with_digit.Statement.{statement}
 use Rattle.script.proofs.numbers.with_digit.Tie as tie
 
-sub-if1 : tie.Need-sub-if1
-sub-if1 c = search needs
-
-div-if1 : tie.Need-div-if1
-div-if1 c = search needs
-
 returns : tie.Need-returns
 returns c = sym (fitting-large _ (no-room _ _ _ (c .before .pre) (c .before .fits .d .fits) (c .if1 .taken)))
 
@@ -26,4 +20,4 @@ returns-2 : tie.Need-returns-2
 returns-2 c = sym (fitting-small _ (room _ _ _ (c .before .pre) (c .before .fits .d .fits) (c .if1 .left)))
 
 pub with-digit-spec : {M : Type 1} → statement M
-with-digit-spec = tie.close (tie.spec sub-if1 div-if1 returns mul-t4 add-t5 returns-2)
+with-digit-spec = tie.close (tie.spec (λ c. search needs) (λ c. search needs) returns mul-t4 add-t5 returns-2)

@@ -17,38 +17,17 @@ abbrev μ-loop : tie.MeasureT-loop
 loop-holds : tie.Need-loop-holds Inv-loop μ-loop
 loop-holds c = refl
 
-shared-slice-read-classify : tie.Need-shared-slice-read-classify Inv-loop μ-loop
-shared-slice-read-classify c = search needs
-
-classify-requires : tie.Need-classify-requires Inv-loop μ-loop
-classify-requires c κs = search needs
-
-enum-told : tie.Need-enum-told Inv-loop μ-loop
-enum-told c = search needs
-
 returns : tie.Need-returns Inv-loop μ-loop
 returns c =
     sym
     (c .before .before .before .before .before .loop .inv
     ∙ wordEnd-at _ _ _ (c .before .before .before .before .loop-test .taken) (sym (c .enum-told .given .1) ∙ c .before .before .classify .ensures))
 
-enum-told-2 : tie.Need-enum-told-2 Inv-loop μ-loop
-enum-told-2 c = search needs
-
 returns-2 : tie.Need-returns-2 Inv-loop μ-loop
 returns-2 c =
     sym
     (c .before .before .before .before .before .loop .inv
     ∙ wordEnd-at _ _ _ (c .before .before .before .before .loop-test .taken) (sym (c .enum-told2 .given .1) ∙ c .before .before .classify .ensures))
-
-enum-told-3 : tie.Need-enum-told-3 Inv-loop μ-loop
-enum-told-3 c = search needs
-
-add-i : tie.Need-add-i Inv-loop μ-loop
-add-i c = search needs
-
-loop-less : tie.Need-loop-less Inv-loop μ-loop
-loop-less c = search needs
 
 loop-again : tie.Need-loop-again Inv-loop μ-loop
 loop-again c =
@@ -65,14 +44,14 @@ word-end-spec =
     Inv-loop
     μ-loop
     loop-holds
-    shared-slice-read-classify
-    classify-requires
-    enum-told
+    (λ c. search needs)
+    (λ c κs. search needs)
+    (λ c. search needs)
     returns
-    enum-told-2
+    (λ c. search needs)
     returns-2
-    enum-told-3
-    add-i
-    loop-less
+    (λ c. search needs)
+    (λ c. search needs)
+    (λ c. search needs)
     loop-again
     returns-3)
