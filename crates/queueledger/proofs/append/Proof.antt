@@ -15,35 +15,27 @@ Inv-loop line₀ begun part at₀ i₀ line at i = length line ≡ length line�
 abbrev μ-loop : tie.MeasureT-loop
 μ-loop line₀ begun part at₀ i₀ line at i = length part - i
 
--- src/main.rt:107:5
 loop-holds : tie.Need-loop-holds Inv-loop μ-loop
 loop-holds c = search needs
 
--- src/main.rt:108:30
 shared-slice-read-store : tie.Need-shared-slice-read-store Inv-loop μ-loop
 shared-slice-read-store c = search needs
 
--- src/main.rt:108:9
 store-requires : tie.Need-store-requires Inv-loop μ-loop
 store-requires c κs = search needs
 
--- src/main.rt:109:9
 add-i : tie.Need-add-i Inv-loop μ-loop
 add-i c = search needs
 
--- src/main.rt:107:5
 loop-less : tie.Need-loop-less Inv-loop μ-loop
 loop-less c = search needs
 
--- src/main.rt:107:5
 loop-again : tie.Need-loop-again Inv-loop μ-loop
 loop-again c = search needs
 
--- src/main.rt:104:1
 same-length : tie.Need-same-length Inv-loop μ-loop
 same-length c = search needs
 
--- src/main.rt:104:1
 returns : tie.Need-returns Inv-loop μ-loop
 returns c = search needs
 

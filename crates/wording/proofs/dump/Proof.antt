@@ -15,31 +15,24 @@ Inv-loop out₀ at image start end place₀ i₀ out place i = length out ≡ le
 abbrev μ-loop : tie.MeasureT-loop
 μ-loop out₀ at image start end place₀ i₀ out place i = end - i
 
--- src/text.rt:179:5
 loop-holds : tie.Need-loop-holds Inv-loop μ-loop
 loop-holds c = search needs
 
--- src/text.rt:180:9
 dump-byte-requires : tie.Need-dump-byte-requires Inv-loop μ-loop
 dump-byte-requires c κs = search needs
 
--- src/text.rt:181:9
 add-i : tie.Need-add-i Inv-loop μ-loop
 add-i c = search needs
 
--- src/text.rt:179:5
 loop-less : tie.Need-loop-less Inv-loop μ-loop
 loop-less c = search needs
 
--- src/text.rt:179:5
 loop-again : tie.Need-loop-again Inv-loop μ-loop
 loop-again c = search needs
 
--- src/text.rt:176:1
 same-length : tie.Need-same-length Inv-loop μ-loop
 same-length c = search needs
 
--- src/text.rt:176:1
 returns : tie.Need-returns Inv-loop μ-loop
 returns c = search needs
 

@@ -7,10 +7,10 @@ use lib.ListN.{length}
 use Rattle.chain.specs.declared.DescriptorChain.{DescriptorChain}
 use Rattle.chain.specs.Walk.{step-falls, walkOf-short, walk-end, walk-next}
 use Rattle.chain.specs.Steps.{chainAt, walkOf}
-use Rattle.chain_demo.proofs.count.Statement.{statement}
-use Rattle.chain_demo.proofs.count.Tie as tie
-use Rattle.chain_demo.proofs.count.Reads as reads
-use Rattle.chain_demo.proofs.count.Lts as lts
+use Rattle.lay_demo.proofs.count.Statement.{statement}
+use Rattle.lay_demo.proofs.count.Tie as tie
+use Rattle.lay_demo.proofs.count.Reads as reads
+use Rattle.lay_demo.proofs.count.Lts as lts
 use Rattle.chain.proofs.DescriptorChain.new.Reads as new-reads
 use Rattle.chain.proofs.DescriptorChain.next.Reads as next-reads
 
@@ -20,39 +20,30 @@ Inv-loop regions mem head c₀ n₀ c n = n + length (walkOf regions mem c) ≡ 
 abbrev μ-loop : tie.MeasureT-loop
 μ-loop regions mem head c₀ n₀ c n = c .ttl
 
--- src/main.rt:18:9
 new-requires : tie.Need-new-requires Inv-loop μ-loop
 new-requires c κs = search needs
 
--- src/main.rt:20:5
 loop-holds : tie.Need-loop-holds Inv-loop μ-loop
 loop-holds c = omega (arith, ap (λ (x : DescriptorChain). length (walkOf (c .before .before .before .args .regions .now) (c .before .before .before .args .mem .now) x)) (c .new .ensures))
 
--- src/main.rt:21:15
 next-requires : tie.Need-next-requires Inv-loop μ-loop
 next-requires c κs = search needs
 
--- src/main.rt:22:27
 enum-known-rest : tie.Need-enum-known-rest Inv-loop μ-loop
 enum-known-rest c = search needs
 
--- src/main.rt:24:17
 add-n : tie.Need-add-n Inv-loop μ-loop
 add-n c = omega (arith, ap length (walk-next _ _ _ _ _ (sym (c .before .before .before .next .ensures) ∙ c .before .rest .given .1)), walkOf-short (c .before .before .before .before .before .before .before .before .args .regions .now) (c .before .before .before .before .before .before .before .before .args .mem .now) (chainAt 0 8 (c .before .before .before .before .before .before .before .before .args .head)))
 
--- src/main.rt:20:5
 loop-less : tie.Need-loop-less Inv-loop μ-loop
 loop-less c = step-falls _ _ _ _ _ (sym (c .before .before .before .next .ensures) ∙ c .before .rest .given .1) .ration
 
--- src/main.rt:20:5
 loop-again : tie.Need-loop-again Inv-loop μ-loop
 loop-again c = omega (arith, ap length (walk-next _ _ _ _ _ (sym (c .before .before .before .next .ensures) ∙ c .before .rest .given .1)))
 
--- src/main.rt:27:17
 enum-told : tie.Need-enum-told Inv-loop μ-loop
 enum-told c = search needs
 
--- src/main.rt:15:1
 returns : tie.Need-returns Inv-loop μ-loop
 returns c = omega (arith, ap length (walk-end _ _ _ (sym (c .before .before .next .ensures) ∙ c .enum-told .given .1)))
 
