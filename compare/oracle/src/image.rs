@@ -49,6 +49,29 @@ impl Deref for Memory {
     }
 }
 
+/// Why a region is refused, in the order of the tests.
+#[derive(Clone, Copy, Debug, PartialEq, Eq)]
+pub enum NoRegion {
+    Full,
+    Empty,
+    BeyondTop,
+    BeyondImage,
+    Overlap,
+}
+
+impl NoRegion {
+    /// In the language's words.
+    pub fn text(self) -> &'static str {
+        match self {
+            NoRegion::Full => "refused full",
+            NoRegion::Empty => "refused empty",
+            NoRegion::BeyondTop => "refused beyond 2^64",
+            NoRegion::BeyondImage => "refused beyond the image",
+            NoRegion::Overlap => "refused overlap",
+        }
+    }
+}
+
 /// The image.
 pub struct Image {
     buffer: Rc<HostBuffer>,
@@ -86,21 +109,25 @@ impl Image {
         offset.checked_add(count).is_some_and(|end| end <= self.len())
     }
 
-    /// Adds a region, or replaces the one that `memory` made. Answers whether that is allowed.
-    pub fn add_region(&mut self, base: u64, len: u64, offset: u64) -> bool {
+    /// Adds a region, or replaces the one that `memory` made; or says why not, and changes nothing.
+    pub fn add_region(&mut self, base: u64, len: u64, offset: u64) -> Result<(), NoRegion> {
         let mut regions = if self.is_plain { vec![] } else { self.memory.regions().to_vec() };
-        let last = match len.checked_sub(1).map(|rest| base.checked_add(rest)) {
-            Some(Some(last)) => last,
-            _ => return false,
-        };
+        if regions.len() == MOST_REGIONS {
+            return Err(NoRegion::Full);
+        }
+        let to_last = len.checked_sub(1).ok_or(NoRegion::Empty)?;
+        let last = base.checked_add(to_last).ok_or(NoRegion::BeyondTop)?;
+        if !self.holds(offset, len) {
+            return Err(NoRegion::BeyondImage);
+        }
         let overlaps = |other: &Region| base <= other.base + (other.len - 1) && other.base <= last;
-        if regions.len() == MOST_REGIONS || !self.holds(offset, len) || regions.iter().any(overlaps) {
-            return false;
+        if regions.iter().any(overlaps) {
+            return Err(NoRegion::Overlap);
         }
         regions.push(Region { base, len, offset: offset as usize, buffer: self.buffer.clone() });
         self.memory.replace(regions);
         self.is_plain = false;
-        true
+        Ok(())
     }
 
     /// The place in the image of a guest address.

@@ -10,7 +10,7 @@ use vm_memory::ByteValued;
 use crate::command::{parse, Area, Command, Wanted};
 use crate::crc::Crc;
 use crate::domain::{ChainPlace, KeptPass};
-use crate::image::{Image, Memory, LARGEST_IMAGE};
+use crate::image::{Image, Memory, NoRegion, LARGEST_IMAGE};
 
 /// The current chain, and where it stands.
 pub struct Chain {
@@ -89,7 +89,10 @@ impl Replay {
     fn run_image(&mut self, command: Command) -> Answer {
         match command {
             Command::Memory { len } => Ok(self.make_image(len)),
-            Command::Region { base, len, offset } => Ok(ok_or(self.image.add_region(base, len, offset), "refused")),
+            Command::Region { base, len, offset } => {
+                let added = self.image.add_region(base, len, offset);
+                Ok(added.map_or_else(NoRegion::text, |()| "ok").into())
+            }
             Command::Store { offset, bytes, counted } => {
                 self.inside(offset, bytes.len() as u64)?;
                 self.image.store(offset, &bytes);

@@ -79,9 +79,26 @@ fn tables_of_regions() {
     let script =
         "memory 64\nregion 0 0 0\nregion 0 65 0\nregion 0xffffffffffffffff 2 0\nregion 0xffffffffffffffff 1 0\n\
                   region 8 8 0\nregion 0 9 0\nregion 15 1 0\nregion 16 8 0\nregion 0 8 56";
-    let expected = ["refused", "refused", "refused", "ok", "ok", "refused", "refused", "ok", "ok"];
+    let expected = [
+        "refused empty",
+        "refused beyond the image",
+        "refused beyond 2^64",
+        "ok",
+        "ok",
+        "refused overlap",
+        "refused overlap",
+        "ok",
+        "ok",
+    ];
     let found = answers(script);
     assert_eq!(found[1..], expected.map(|answer| format!("region: {answer}")));
+}
+
+#[test]
+fn a_ninth_region_is_refused_before_all_else() {
+    let eight: String = (0..8).map(|i| format!("\nregion {} 2 0", 2 * i)).collect();
+    let found = answers(&format!("memory 64{eight}\nregion 0 0 64\nregion 16 2 0"));
+    assert_eq!(found[8..], ["region: ok", "region: refused full", "region: refused full"]);
 }
 
 #[test]

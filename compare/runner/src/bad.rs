@@ -114,7 +114,7 @@ fn without_pass_or_chain(author: &mut Author) {
 fn refused_memory(author: &mut Author) {
     let len = author.replay.image().len();
     let random = &mut author.random;
-    match random.below(8) {
+    match random.below(9) {
         0 => {
             let len = random.pick(&[(1 << 20) + 1, 1 << 21, U64]);
             author.say("memory", &[len]);
@@ -135,6 +135,18 @@ fn refused_memory(author: &mut Author) {
         5 => {
             let offset = random.pick(&[len, U64, U64 - 1]);
             author.say("region", &[1 << 40, 2, offset]);
+        }
+        // Two reasons or three at once: the first of the tests decides.
+        6 => {
+            let region = random.pick(&[
+                [0, 0, U64],
+                [U64, 0, 0],
+                [U64, len + 2, 0],
+                [U64, 2, len],
+                [0, len + 2, 0],
+                [0, 2, U64],
+            ]);
+            author.say("region", &region);
         }
         // Fine while there is room in the table and in the image, and refused otherwise.
         _ => {

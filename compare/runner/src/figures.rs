@@ -9,8 +9,10 @@ use crate::author::Stream;
 
 /// Every kind of answer that the language has. A run that misses one has a hole.
 const EXPECTED: &str = "\
-    memory: N; memory: refused; region: ok; region: refused; bytes: N; fill: N; u16: ok; u32: ok; u64: ok; \
-    desc: ok; dump: NOTHING; dump: BYTES; sum: CRC; queue: ok; queue: refused largest size; size: ok; \
+    memory: N; memory: refused; region: ok; region: refused full; region: refused empty; \
+    region: refused beyond 2^64; region: refused beyond the image; region: refused overlap; bytes: N; fill: N; \
+    u16: ok; u32: ok; u64: ok; desc: ok; dump: NOTHING; dump: BYTES; sum: CRC; queue: ok; \
+    queue: refused largest size; size: ok; \
     size: refused size; table: ok; table: refused alignment; avail: ok; avail: refused alignment; used: ok; \
     used: refused alignment; ready: ok; event: ok; next-avail: ok; next-used: ok; reset: ok; valid: yes; \
     valid: no; begin: ok; begin: refused not ready; begin: refused memory; begin: refused available index; \

@@ -1,5 +1,6 @@
 // SPDX-License-Identifier: Apache-2.0 AND BSD-3-Clause
 // What a replay knows between two lines, beside the image and the table of regions, and what a line answers.
+use adding::Adding;
 use chain::DescriptorChain;
 use desc::Descriptor;
 use queue::AvailIter;
@@ -51,6 +52,8 @@ pub enum Answer {
     Nothing,
     Refused,
     RefusedFor(Error),
+    // what became of a region
+    Region(Adding),
     Number(u64),
     Sum(u32),
     // how many descriptors came, and the sum of their bytes

@@ -1,5 +1,7 @@
 // SPDX-License-Identifier: Apache-2.0 AND BSD-3-Clause
-// Runs a script of the replay language from standard input, and writes its answers to standard output.
+// Runs a script of the replay language from standard input, and writes its answers to standard output. What an exit status would tell
+// goes to standard error, a line for each thing: a program has no exit status, and the command that runs this one makes it.
+use libc::STDERR_FILENO;
 use libc::STDIN_FILENO;
 use libc::STDOUT_FILENO;
 use lines::state::Done;
@@ -14,7 +16,12 @@ struct Progress {
     begun: usize,
     // How many bytes of answers wait to be written.
     waiting: usize,
+    // A line was answered with an error.
+    wrong: bool,
+    // No more is read: the input has ended, a read failed, or a write did.
     ended: bool,
+    unread: bool,
+    unwritten: bool,
 }
 
 // Answers are written when there may be no room for one more.
@@ -37,11 +44,38 @@ fn run(space: &mut [u8], table: &mut [u64], line: &mut [u8], out: &mut [u8]) {
     end_script(s, space, table, line, out);
 }
 
-// The last line may lack its line feed.
+// The last line may lack its line feed. Where a read failed it is no line: nobody knows how it goes on.
 fn end_script(s: Progress, space: &mut [u8], table: &mut [u64], line: &[u8], out: &mut [u8]) {
-    if 0 < s.begun {
-        let last = end_line(s, space, table, line, out);
-        write_waiting(last, out);
+    if s.unread {
+        report(s);
+        return;
+    }
+    if s.begun == 0 {
+        report(s);
+        return;
+    }
+    let last = end_line(s, space, table, line, out);
+    report(write_waiting(last, out));
+}
+
+fn report(s: Progress) {
+    if s.unread {
+        io::write_all(
+            STDERR_FILENO,
+            b"queueledger: the script could not be read\n",
+        );
+    }
+    if s.unwritten {
+        io::write_all(
+            STDERR_FILENO,
+            b"queueledger: an answer could not be written\n",
+        );
+    }
+    if s.wrong {
+        io::write_all(
+            STDERR_FILENO,
+            b"queueledger: a line was answered with an error\n",
+        );
     }
 }
 
@@ -51,7 +85,10 @@ fn start() -> Progress {
         lines: 0,
         begun: 0,
         waiting: 0,
+        wrong: false,
         ended: false,
+        unread: false,
+        unwritten: false,
     }
 }
 
@@ -86,14 +123,15 @@ fn read_some(
     let mut buffer = io::large_buffer();
     let got = libc::read(STDIN_FILENO, &mut buffer);
     if got <= 0 {
-        return end_of(s);
+        return end_of(s, got < 0);
     }
     let n = io::count(got, &buffer);
     write_waiting(feed(&buffer[..n], s, space, table, line, out), out)
 }
 
-fn end_of(mut s: Progress) -> Progress {
+fn end_of(mut s: Progress, unread: bool) -> Progress {
     s.ended = true;
+    s.unread = unread;
     s
 }
 
@@ -169,36 +207,46 @@ fn answer_line(
     let number = std::num::wrapping_add_u64(s.lines, 1);
     let outcome = replay::line::run_line(line, state, space, table);
     match outcome {
-        Outcome::Silent => next_line(state, number, s.waiting, out),
+        Outcome::Silent => next_line(s, state, number, s.waiting, s.wrong, out),
         Outcome::Wrong(fault) => {
             let waiting = wording::write_fault(out, s.waiting, number, fault);
-            next_line(state, number, waiting, out)
+            next_line(s, state, number, waiting, true, out)
         }
-        Outcome::Ran(done) => answer(done, number, s.waiting, space, line, out),
+        Outcome::Ran(done) => answer(done, s, number, space, line, out),
     }
 }
 
 fn answer(
     done: Done,
+    s: Progress,
     number: u64,
-    waiting: usize,
     space: &[u8],
     line: &[u8],
     out: &mut [u8],
 ) -> Progress {
     let state = done.state;
     let said = done.answer;
-    let longer = wording::write_answer(out, waiting, line, said, space);
-    next_line(state, number, longer, out)
+    let longer = wording::write_answer(out, s.waiting, line, said, space);
+    next_line(s, state, number, longer, s.wrong, out)
 }
 
-fn next_line(state: State, lines: u64, waiting: usize, out: &[u8]) -> Progress {
+fn next_line(
+    before: Progress,
+    state: State,
+    lines: u64,
+    waiting: usize,
+    wrong: bool,
+    out: &[u8],
+) -> Progress {
     let s = Progress {
         state,
         lines,
         begun: 0,
         waiting,
-        ended: false,
+        wrong,
+        ended: before.ended,
+        unread: before.unread,
+        unwritten: before.unwritten,
     };
     if waiting < FULL {
         return s;
@@ -206,11 +254,23 @@ fn next_line(state: State, lines: u64, waiting: usize, out: &[u8]) -> Progress {
     write_waiting(s, out)
 }
 
+// After a write that failed none is tried: else an answer could be missing among those that are there.
 fn write_waiting(mut s: Progress, out: &[u8]) -> Progress {
     let waiting = s.waiting;
-    if waiting <= out.len() {
-        io::write_all(STDOUT_FILENO, &out[0..waiting]);
-    }
     s.waiting = 0;
+    if s.unwritten {
+        return s;
+    }
+    if waiting <= out.len() {
+        if !io::write_all(STDOUT_FILENO, &out[0..waiting]) {
+            return unwritten(s);
+        }
+    }
+    s
+}
+
+fn unwritten(mut s: Progress) -> Progress {
+    s.ended = true;
+    s.unwritten = true;
     s
 }

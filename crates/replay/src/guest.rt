@@ -80,8 +80,8 @@ fn region(numbers: &[u64], size: usize, st: State, table: &mut [u64]) -> Done {
 
 fn added(st: State, answer: Adding) -> Done {
     match answer {
-        Adding::Added => st.mapped().answers(Answer::Fine),
-        _ => st.answers(Answer::Refused),
+        Adding::Added => st.mapped().answers(Answer::Region(answer)),
+        _ => st.answers(Answer::Region(answer)),
     }
 }
 

@@ -1,6 +1,7 @@
 // SPDX-License-Identifier: Apache-2.0 AND BSD-3-Clause
 // Answers as text, at a place in a buffer that is lent. Each function answers the place after what it wrote; what finds no room is
 // left out, and no answer is longer than LONGEST_ANSWER.
+use adding::Adding;
 use desc::Descriptor;
 use lines::state::Answer;
 use lines::state::Fault;
@@ -111,6 +112,7 @@ fn answer_text(out: &mut [u8], at: usize, answer: Answer, image: &[u8]) -> usize
         Answer::Nothing => put(out, at, b"none"),
         Answer::Refused => put(out, at, b"refused"),
         Answer::RefusedFor(e) => reason(out, at, e),
+        Answer::Region(a) => region(out, at, a),
         Answer::Number(n) => decimal(out, at, n),
         Answer::Sum(sum) => hex8(out, at, sum),
         Answer::Walked(count, sum) => walked(out, at, count, sum),
@@ -132,6 +134,17 @@ fn reason(out: &mut [u8], at: usize, e: Error) -> usize {
         Error::InvalidAvailRingIndex => put(out, place, b"available index"),
         Error::InvalidDescriptorIndex => put(out, place, b"descriptor index"),
         Error::GuestMemory => put(out, place, b"memory"),
+    }
+}
+
+fn region(out: &mut [u8], at: usize, a: Adding) -> usize {
+    match a {
+        Adding::Added => put(out, at, b"ok"),
+        Adding::Full => put(out, at, b"refused full"),
+        Adding::Empty => put(out, at, b"refused empty"),
+        Adding::PastTop => put(out, at, b"refused beyond 2^64"),
+        Adding::PastSlice => put(out, at, b"refused beyond the image"),
+        Adding::Overlap => put(out, at, b"refused overlap"),
     }
 }
 

@@ -7,10 +7,10 @@ use lib.ListN.{length}
 use Rattle.chain.specs.declared.DescriptorChain.{DescriptorChain}
 use Rattle.chain.specs.Walk.{step-falls, walkOf-short, walk-end, walk-next}
 use Rattle.chain.specs.Steps.{chainAt, walkOf}
-use Rattle.chain_demo.proofs.count.Statement.{statement}
-use Rattle.chain_demo.proofs.count.Tie as tie
-use Rattle.chain_demo.proofs.count.Reads as reads
-use Rattle.chain_demo.proofs.count.Lts as lts
+use Rattle.lay_demo.proofs.count.Statement.{statement}
+use Rattle.lay_demo.proofs.count.Tie as tie
+use Rattle.lay_demo.proofs.count.Reads as reads
+use Rattle.lay_demo.proofs.count.Lts as lts
 use Rattle.chain.proofs.DescriptorChain.new.Reads as new-reads
 use Rattle.chain.proofs.DescriptorChain.next.Reads as next-reads
 
