@@ -1,6 +1,8 @@
 // SPDX-License-Identifier: Apache-2.0 AND BSD-3-Clause
 // The round of the speed comparison, over the port. It reads eight numbers, `ROUNDS EVENT REGIONS SIZE DESC AVAIL USED LEN`, so that
 // nothing is constant, and prints the sum and the image's checksum; bench/round does the same over the crate.
+#![tactic(auto)]
+
 mod input; // input.rt: the eight numbers
 mod image; // image.rt: regions, descriptors, the available ring's entries, the checksum
 mod rounds; // rounds.rt: the driver's part and the device's

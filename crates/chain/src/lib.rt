@@ -1,5 +1,7 @@
 // SPDX-License-Identifier: Apache-2.0 AND BSD-3-Clause
 // Descriptor chains: the walk along one, the two filtered walks, and laying one into guest memory.
+#![tactic(auto)]
+
 pub mod lay;
 
 ghost use Rattle.std.specs.Prelude.{◌≡◌, true, false, ◌<◌};

@@ -1,5 +1,7 @@
 // SPDX-License-Identifier: Apache-2.0 AND BSD-3-Clause
 // The layouts of a split queue's three areas, the split descriptor and the used element.
+#![tactic(auto)]
+
 ghost use Rattle.std.specs.Prelude.{◌≡◌, ◌+◌, ◌*◌, ◌%◌};
 ghost use Rattle.wire.specs.Number.{bytes};
 ghost use Rattle.memory.specs.Access.{Wrote, WroteBoth};

@@ -1,6 +1,8 @@
 // SPDX-License-Identifier: Apache-2.0 AND BSD-3-Clause
 // Chains that a driver lays, and why one is refused, in words: one region of 256 bytes at guest address 0, and in it a table of 8
 // descriptors at guest address 0. The replay language has no command for this; scripts show the rest of what a chain does.
+#![tactic(auto)]
+
 ghost use Rattle.std.specs.Prelude.{◌≡◌, ◌≤◌, length};
 ghost use Rattle.chain.specs.Steps.{chain_at, walk_of};
 

@@ -1,6 +1,8 @@
 // SPDX-License-Identifier: Apache-2.0 AND BSD-3-Clause
 // The calls of a device as data, and one function that makes the call it is given: its answer, queue and memory are one step of the world that the
 // theorems of specs/ speak of.
+#![tactic(auto)]
+
 use queue::{AvailIter, Error, Half, Queue};
 
 pub mod make; // make.rt: makes a call

@@ -1,5 +1,7 @@
 // SPDX-License-Identifier: Apache-2.0 AND BSD-3-Clause
 // The library's calls on what was loaded: a state that holds no queue is answered by its number.
+#![tactic(auto)]
+
 ghost use Rattle.std.specs.Prelude.{◌≡◌, length};
 ghost use Rattle.memory.specs.Access.{read2_of};
 ghost use Rattle.queue.specs.State.{pass, with_ready, with_event_idx, with_next_avail, with_next_used};

@@ -6,6 +6,8 @@
 // whole and nothing is written. There are three ways, from the fast to the slow: the first row holds all the bytes; a later row
 // does; the bytes are looked for one by one. What a queue does in every round tries the first row in place and leaves everything else
 // to a function that is called, from two places or more: the compiler builds in what has a single caller, whatever its size.
+#![tactic(auto)]
+
 ghost use Rattle.std.specs.Prelude.{◌≡◌, true, ◌+◌, ◌≤◌, length};
 ghost use Rattle.wire.specs.Number.{number};
 ghost use Rattle.wire.specs.Part.{part};

@@ -2,6 +2,7 @@
 // The split queue, device side: ten numbers and flags by value, a pass over the available ring, and what the calls answer.
 //
 // A call that can be refused answers what changed, or the reason. A refusal hands back no queue: the caller's own is still the one.
+#![tactic(auto)]
 
 pub mod config; // config.rt: what the driver sets, reset, and whether the three areas are in memory
 pub mod avail; // avail.rt: a pass over the available ring

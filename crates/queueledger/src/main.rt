@@ -1,6 +1,8 @@
 // SPDX-License-Identifier: Apache-2.0 AND BSD-3-Clause
 // Runs a script of the replay language from standard input, and writes its answers to standard output. What an exit status would tell
 // goes to standard error, a line for each thing: a program has no exit status, and the command that runs this one makes it.
+#![tactic(auto)]
+
 use libc::{STDERR_FILENO, STDIN_FILENO, STDOUT_FILENO};
 use lines::state::{Done, Outcome, State};
 

@@ -1,6 +1,8 @@
 // SPDX-License-Identifier: Apache-2.0 AND BSD-3-Clause
 // The library for C and Rust: its calls on numbers and lent slices. The queue is ten words that the caller keeps; every answer is a number
 // (include/queueledger.h has them all). Every function is total: words that hold no queue are refused, and nothing is changed.
+#![tactic(auto)]
+
 ghost use Rattle.std.specs.Prelude.{◌≡◌, true, false, length};
 ghost use Rattle.adding.specs.Grow.{adding_of, table_with};
 ghost use Rattle.memory.specs.Access.{read2_of};

@@ -4,6 +4,8 @@
 // The table is lent and flat, three words a region: guest base, length, offset in the slice. At most eight rows count. A guest
 // address lies where the first row that holds it puts it. Every function is total: a row that runs past the slice or past 2^64
 // has no bytes there, and an incomplete row at the end counts for nothing.
+#![tactic(auto)]
+
 ghost use Rattle.std.specs.Prelude.{◌≡◌, ◌+◌, ◌≤◌, ◌<◌, ◌^◌, min};
 ghost use Rattle.regions.specs.Table.{row, extent, stretch_r, stretch_of};
 ghost use Rattle.regions.specs.Spots.{Sided, Seated, covered};

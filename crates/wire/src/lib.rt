@@ -1,6 +1,8 @@
 // SPDX-License-Identifier: Apache-2.0 AND BSD-3-Clause
 // Numbers in bytes, lowest byte first. Nothing else in the library knows how a number is laid into bytes.
 // Each function requires that its bytes are in the slice: `memory` has found that out when it calls.
+#![tactic(auto)]
+
 ghost use Rattle.std.specs.Prelude.{◌≡◌, ◌+◌, ◌≤◌, ◌<◌, length};
 ghost use Rattle.std.proofs.lemmas.List.Edits.{sets};
 ghost use Rattle.wire.specs.Number.{number, bytes};

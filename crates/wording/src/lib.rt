@@ -1,6 +1,8 @@
 // SPDX-License-Identifier: Apache-2.0 AND BSD-3-Clause
 // Answers as text, at a place in a buffer that is lent. Each function answers the place after what it wrote; what finds no room is
 // left out, and no answer is longer than LONGEST_ANSWER.
+#![tactic(auto)]
+
 use adding::Adding;
 use desc::Descriptor;
 use lines::state::{Answer, Fault};
