@@ -3,7 +3,7 @@
 use Prim.Native.Nat.{ℕ, zero, suc, ◌+◌, ◌*◌, ◌<◌, ◌≤◌}
 use Rattle.std.proofs.Common.{arith, sym, ap, ◌∙◌, inl, inr, true≢false, ltb-true}
 use Rattle.std.specs.Prelude.{◌≡◌, ◌⊎◌, Bool, true, false, List, [], ◌∷◌, length, ltb}
-use Rattle.std.proofs.Math.Path.{refl}
+use Rattle.std.proofs.Math.Path.{refl, subst}
 use Rattle.wire.specs.Part.{Apart}
 use Rattle.regions.specs.Table.{pick, Table, Good}
 use Rattle.memory.specs.Access.{after, Agree}
@@ -147,7 +147,8 @@ module _ (t : Table) (m : List ℕ) (stop : Descriptor → Bool) (a n : ℕ) whe
       → Spared a n c.desc_table (pick b (c.next_index ∷ on_step s (λ d r. pick (stop d) [] (looks stop k t m r)) []) [])
   table' true k c (Next d r) e f h ih =
       let w = step_falls t m c d r f in
-      (at_index _ _ _ h (reads_index c e), rw (← w.table) (table'' (stop d) r.desc_table (looks stop k t m r) (ih r (rw (w.table, w.size) h))))
+      (at_index _ _ _ h (reads_index c e), subst (λ (x : ℕ). Spared a n x (pick (stop d) [] (looks stop k t m r))) w.table
+      (table'' (stop d) r.desc_table (looks stop k t m r) (ih r (rw (w.table, w.size) h))))
   table' true k c End e f h ih = (at_index _ _ _ h (reads_index c e), tt)
   table' false k c s e f h ih = tt
 

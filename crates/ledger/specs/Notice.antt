@@ -3,7 +3,7 @@
 use Rattle.std.specs.Prelude.{ℕ, ◌+◌, ◌-◌, ◌%◌, ◌<◌, ◌≡◌, refl, ◌↔◌, Bool, true, false}
 use Rattle.std.proofs.Common.{arith, sym, ◌∙◌, true≢false}
 use Rattle.std.proofs.Math.Path.{ap}
-use Rattle.std.proofs.Math.Logic.{Iff·trans}
+use Rattle.std.proofs.Math.Logic.Iff
 use Rattle.regions.specs.Table.{Table}
 use Rattle.memory.specs.declared.Got2.TheVariants.{Value}
 use Rattle.queue.specs.Notify.{tells, used_event_read, question_off, question_read, answered_on}
@@ -41,7 +41,7 @@ module _ (t : Table) (w : World) where
     pub question_iff : b.since < 65536 → (answer t w Question ≡ Yes) ↔ Named (since_number b) (next_put b) event
     question_iff few =
         rw (question_is event on read)
-        (Iff·trans (yes_iff (tells w.queue.next_used w.queue.num_added event))
+        (Iff.trans (yes_iff (tells w.queue.next_used w.queue.num_added event))
         (rw from_first at
         (tells_iff (since_number b) b.since w.queue.next_used w.queue.num_added event few (rw from_first h.count) (h.grew known))))
 

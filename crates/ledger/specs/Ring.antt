@@ -289,12 +289,13 @@ entry_of t q m n = bytes_at t m (used_entry_addr q.used_ring q.size n) 8
 moved_entry : (t : Table) (q r : Queue) (m k : List ℕ) (n : ℕ) → Unmoved q r → entry_of t q m n ≡ entry_of t q k n → entry_of t r m n ≡ entry_of t q k n
 moved_entry t q r m k n u e = rw (u.ring, u.size) e
 
-pub entry_stays : {t : Table} {w : World} {s r : State} {n : ℕ} → Good t → Proper w.queue → Reached t w s → Spared t n s r
+-- (the number stands before the later state: the recursion on `Spared` asks for that order)
+entry_stays' : {t : Table} {w : World} {s : State} {n : ℕ} {r : State} → Good t → Proper w.queue → Reached t w s → Spared t n s r
     → n < next_put s.used → next_put r.used ≤ n + r.world.queue.size
     → entry_of t r.world.queue r.world.mem n ≡ entry_of t s.world.queue s.world.mem n
-entry_stays g p h at_once o l = refl
-entry_stays g p h (by_guest x m e) o l = e ∙ entry_stays g p h x o l
-entry_stays {t} {w} {s} {n = n} g p h (by_device {r = r} x c u k) o l =
+entry_stays' g p h at_once o l = refl
+entry_stays' g p h (by_guest x m e) o l = e ∙ entry_stays' g p h x o l
+entry_stays' {t} {w} {s} {n = n} g p h (by_device {r = r} x c u k) o l =
     let f = spared_further x in
     let y = proper_always p (spared_reached h x) in
     let i : (called t r c).world.queue.size ≡ r.world.queue.size = u.size in
@@ -302,4 +303,9 @@ entry_stays {t} {w} {s} {n = n} g p h (by_device {r = r} x c u k) o l =
     let o' : n < next_put r.used = let z = f.on in omega arith in
     moved_entry t r.world.queue (called t r c).world.queue (called t r c).world.mem r.world.mem n u
     (entry-step t g r.world.queue r.world.pass r.world.mem r.used (used_always (spared_reached h x)) (divides r.world.queue y) (power_some r.world.queue.size y.power) n o' c j)
-    ∙ entry_stays g p h x o (omega arith)
+    ∙ entry_stays' g p h x o (omega arith)
+
+pub entry_stays : {t : Table} {w : World} {s r : State} {n : ℕ} → Good t → Proper w.queue → Reached t w s → Spared t n s r
+    → n < next_put s.used → next_put r.used ≤ n + r.world.queue.size
+    → entry_of t r.world.queue r.world.mem n ≡ entry_of t s.world.queue s.world.mem n
+entry_stays g p h x o l = entry_stays' g p h x o l

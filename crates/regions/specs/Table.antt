@@ -166,6 +166,7 @@ abbrev pub InMemory : Table → ℕ → ℕ → Type 0
 InMemory t size a = (i : ℕ) × Maps t size a i
 
 room_in : (rs : List Row) (size a i : ℕ) → MapsIn rs size a i → (i < size) × (a < 2 ^ 64)
+room_in [] size a i h = elim h [ ]
 room_in (r ∷ rs) size a i (inl h) = (holds_room r size a i h, holds_top r size a i h)
 room_in (r ∷ rs) size a i (inr h) = room_in rs size a i h
 
@@ -213,6 +214,7 @@ has_in' r size a Nothing q e (inr h) = h
 
 has_in : (rs : List Row) (size a i : ℕ) → MapsIn rs size a i → (j : ℕ) × (place_of (stretch_in rs size a) ≡ At j)
 unfolding stretch_in
+has_in [] size a i h = elim h [ ]
 has_in (r ∷ rs) size a i (inl h) = has_in' r size a (stretch_r r size a) (stretch_in rs size a) refl (inl (i, h))
 has_in (r ∷ rs) size a i (inr h) = has_in' r size a (stretch_r r size a) (stretch_in rs size a) refl (inr (has_in rs size a i h))
 
@@ -259,14 +261,17 @@ module _ (P : Row → Row → Type 0) (size a i b j : ℕ) (E : Type 0) (same : 
     (fore : (r s : Row) → P r s → Holds r size a i → Holds s size b j → ⊥)
     (back : (r s : Row) → P r s → Holds s size a i → Holds r size b j → ⊥) where
   fore' : (r : Row) (rs : List Row) → Each P r rs → Holds r size a i → MapsIn rs size b j → ⊥
+  fore' r [] c p q = elim q [ ]
   fore' r (s ∷ rs) c p (inl q) = fore r s c.0 p q
   fore' r (s ∷ rs) c p (inr q) = fore' r rs c.1 p q
 
   back' : (r : Row) (rs : List Row) → Each P r rs → MapsIn rs size a i → Holds r size b j → ⊥
+  back' r [] c p q = elim p [ ]
   back' r (s ∷ rs) c (inl p) q = back r s c.0 p q
   back' r (s ∷ rs) c (inr p) q = back' r rs c.1 p q
 
   one_in : (rs : List Row) → Pairs P rs → MapsIn rs size a i → MapsIn rs size b j → E
+  one_in [] c p q = elim p [ ]
   one_in (r ∷ rs) c (inl p) (inl q) = same r p q
   one_in (r ∷ rs) c (inl p) (inr q) = absurd (fore' r rs c.0 p q)
   one_in (r ∷ rs) c (inr p) (inl q) = absurd (back' r rs c.0 p q)
