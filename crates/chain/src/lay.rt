@@ -7,7 +7,7 @@ ghost use Rattle.chain.specs.Laying.{SameLength, In, sums, sum_fits};
 use desc::Descriptor;
 
 // What laying a chain answers: that it was laid, or the first reason against it, in this order.
-#[derive(Drop)]
+#[derive(Clone, Copy)]
 pub enum Laid {
     Done,
     // No descriptors, more than the table has, or lists of unequal lengths.

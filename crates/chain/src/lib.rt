@@ -10,7 +10,7 @@ ghost use Rattle.chain.specs.Steps.{chain_at, taken, step_of, Sought};
 use desc::{Descriptor, Found};
 
 // What is left of a chain. The guest writes the table that it is read from, so nothing in it is trusted.
-#[derive(Drop)]
+#[derive(Clone, Copy)]
 pub struct DescriptorChain {
     pub desc_table: u64,
     pub queue_size: u16,
@@ -22,7 +22,7 @@ pub struct DescriptorChain {
 }
 
 // The next descriptor with the chain behind it, or that there is none.
-#[derive(Drop)]
+#[derive(Clone, Copy)]
 pub enum Step {
     Next(Descriptor, DescriptorChain),
     End,

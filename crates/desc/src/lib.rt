@@ -41,7 +41,7 @@ pub const VRING_DESC_F_INDIRECT: u16 = 4;
 
 pub const VRING_USED_F_NO_NOTIFY: u16 = 1;
 
-#[derive(Drop)]
+#[derive(Clone, Copy)]
 pub struct Descriptor {
     pub addr: u64,
     pub len: u32,
@@ -50,7 +50,7 @@ pub struct Descriptor {
 }
 
 // What reading a descriptor from guest memory finds.
-#[derive(Drop)]
+#[derive(Clone, Copy)]
 pub enum Found {
     Desc(Descriptor),
     NoDesc,

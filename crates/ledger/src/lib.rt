@@ -10,7 +10,7 @@ pub mod number; // number.rt: a call chosen by a number
 mod told; // told.rt: what each kind of answer comes to
 
 // What the driver sets through the transport.
-#[derive(Drop)]
+#[derive(Clone, Copy)]
 pub enum Setting {
     Size(u16),
     DescTable(Half, Half),
@@ -21,7 +21,7 @@ pub enum Setting {
 }
 
 // A call on a queue, with its arguments.
-#[derive(Drop)]
+#[derive(Clone, Copy)]
 pub enum Call {
     Set(Setting),
     SetNextAvail(u16),
@@ -40,7 +40,7 @@ pub enum Call {
 }
 
 // What a call answers.
-#[derive(Drop)]
+#[derive(Clone, Copy)]
 pub enum Answer {
     Done,
     Took(u16),
@@ -51,7 +51,7 @@ pub enum Answer {
 }
 
 // What a call answers, and what it leaves of the device's own: the queue, and the pass that goes on.
-#[derive(Drop)]
+#[derive(Clone, Copy)]
 pub struct Step {
     pub answer: Answer,
     pub queue: Queue,
@@ -59,7 +59,7 @@ pub struct Step {
 }
 
 // The arguments of a call that is chosen by a number: a call takes those that it has a use for.
-#[derive(Drop)]
+#[derive(Clone, Copy)]
 pub struct Args {
     pub number: u16,
     pub length: u32,

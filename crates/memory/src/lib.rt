@@ -19,14 +19,14 @@ ghost use Rattle.memory.specs.Access.{readable, writable, decoded, read2_of, rea
 use regions::{Place, Side, Stretch};
 
 // What a read of 2 bytes finds.
-#[derive(Drop)]
+#[derive(Clone, Copy)]
 pub enum Got2 {
     Value(u16),
     Fault2,
 }
 
 // What a read of 16 bytes finds: numbers of 8, 4, 2 and 2 bytes side by side, the shape of a descriptor, split or packed.
-#[derive(Drop)]
+#[derive(Clone, Copy)]
 pub enum Got16 {
     Fields(u64, u32, u16, u16),
     Fault16,

@@ -10,7 +10,7 @@ pub mod used; // used.rt: entries of the used ring
 pub mod notify; // notify.rt: who has to be notified
 mod ring; // ring.rt: sizes, and places in a ring
 
-#[derive(Drop)]
+#[derive(Clone, Copy)]
 pub struct Queue {
     // The largest size that the device offers.
     pub max_size: u16,
@@ -33,20 +33,20 @@ pub struct Queue {
 }
 
 // A pass over the available ring: the idx that was read when it began.
-#[derive(Drop)]
+#[derive(Clone, Copy)]
 pub struct AvailIter {
     pub last_index: u16,
 }
 
 // Half of an address: 32 bits, or none, which keeps those that are there.
-#[derive(Drop)]
+#[derive(Clone, Copy)]
 pub enum Half {
     Given(u32),
     Kept,
 }
 
 // Why a call was refused.
-#[derive(Drop)]
+#[derive(Clone, Copy)]
 pub enum Error {
     InvalidMaxSize,
     InvalidSize,
@@ -61,49 +61,49 @@ pub enum Error {
 }
 
 // What configuration answers.
-#[derive(Drop)]
+#[derive(Clone, Copy)]
 pub enum Configured {
     Changed(Queue),
     NotChanged(Error),
 }
 
 // What a begin answers.
-#[derive(Drop)]
+#[derive(Clone, Copy)]
 pub enum Begun {
     Pass(AvailIter),
     NotBegun(Error),
 }
 
 // What a step of a pass answers: a head, and the queue after it.
-#[derive(Drop)]
+#[derive(Clone, Copy)]
 pub enum Taken {
     Head(u16, Queue),
     NoHead,
 }
 
 // What a put answers.
-#[derive(Drop)]
+#[derive(Clone, Copy)]
 pub enum Placed {
     Added(Queue),
     NotAdded(Error),
 }
 
 // What stopping notifications from the driver answers.
-#[derive(Drop)]
+#[derive(Clone, Copy)]
 pub enum Stopped {
     Disabled,
     NotDisabled(Error),
 }
 
 // What asking for notifications answers: whether something came in meanwhile.
-#[derive(Drop)]
+#[derive(Clone, Copy)]
 pub enum Asked {
     Enabled(bool),
     NotEnabled(Error),
 }
 
 // What the question answers: whether the driver must be notified.
-#[derive(Drop)]
+#[derive(Clone, Copy)]
 pub enum Answered {
     Needed(bool, Queue),
     NotAnswered(Error),

@@ -16,14 +16,14 @@ pub const REGION_WORDS: usize = 3;
 pub const REGIONS: usize = 8;
 
 // Where in the slice the bytes of an access begin, if they lie there in a row.
-#[derive(Drop)]
+#[derive(Clone, Copy)]
 pub enum Place {
     At(usize),
     Nowhere,
 }
 
 // What a row has from a guest address on: its place in the slice, and the number of bytes to the row's end.
-#[derive(Drop)]
+#[derive(Clone, Copy)]
 pub enum Stretch {
     Run(usize, u64),
     Nothing,
@@ -90,7 +90,7 @@ pub fn find(regions: &[u64], size: usize, a: u64) -> Stretch
 }
 
 // What one row says of the n bytes from guest address a on.
-#[derive(Drop)]
+#[derive(Clone, Copy)]
 pub enum Side {
     // it holds them all, from this place on
     All(usize),
