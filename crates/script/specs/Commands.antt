@@ -66,7 +66,7 @@ table =
     ∷ ("ready", Ready)
     ∷ ("event", Event)
     ∷ ("next-avail", NextAvail)
-    ∷ ("next_used_lem", NextUsed)
+    ∷ ("next-used", NextUsed)
     ∷ ("reset", Reset)
     ∷ ("valid", Valid)
     ∷ ("begin", Begin)

@@ -60,7 +60,7 @@ sign = refl
 
 -- ---- commands
 
-whole_name : command_of (text_bytes "next_used_lem") ≡ NextUsed
+whole_name : command_of (text_bytes "next-used") ≡ NextUsed
 unfolding command_of command_in table same_bytes text_bytes
 whole_name = refl
 
