@@ -1,16 +1,15 @@
 -- SPDX-License-Identifier: Apache-2.0 AND BSD-3-Clause
 -- Adding a region to a table. A row of length 0 holds no address and is free; the region goes into the first free row of eight.
 use Prim.Native.Nat.{ℕ, zero, suc, ◌+◌, ◌-◌, ◌≤◌, ◌<◌, ◌^◌, min, max}
-use Rattle.std.proofs.Common.{add-one, add-zero, add_assoc, ap, ◌∙◌, true≢false, inl, inr}
-use Rattle.std.proofs.Math.Numerals.{add-two, add-three}
+use Rattle.std.proofs.Common.{add-zero, add_assoc, ap, ◌∙◌, true≢false}
 use native.Mathlib.Omega.{arith}
 use Rattle.std.proofs.Math.Path.{◌≡◌, refl, sym}
-use Rattle.std.specs.Prelude.{Bool, ◌⊎◌, length, set, get_or, ltb, eqb}
+use Rattle.std.specs.Prelude.{Bool, length, get_or, ltb, eqb}
 use Rattle.std.proofs.Math.Bool.{true, false}
 use mathlib.Core.List.{List, [], ◌∷◌}
 use Rattle.std.proofs.lemmas.List.Edits.{sets}
-use borrow.Author.Tests.{lt-ltb, le-ltb, ltb-true, ltb-false, eq-eqb, ne_eqb, eqb-true}
-use Rattle.regions.specs.Table.{pick, Table, Row, row, rows, row_at, Holds, extent-fits, Each, Pairs, Disjoint, GuestApart, Single, apart_single, left, left_all, left-row, left_none, left_short}
+use borrow.Author.Tests.{lt-ltb, le-ltb, ltb-false, eq-eqb, ne_eqb}
+use Rattle.regions.specs.Table.{pick, Table, Row, row, rows, row_at, Each, Pairs, Disjoint, GuestApart, Single, apart_single, left, left_all, left-row}
 use Rattle.regions.specs.declared.Place.{Place}
 use Rattle.regions.specs.declared.Place.TheVariants.{At, Nowhere}
 use Rattle.adding.specs.declared.Adding as decl

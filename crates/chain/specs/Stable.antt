@@ -146,9 +146,11 @@ module _ (t : Table) (m : List ℕ) (stop : Descriptor → Bool) (a n : ℕ) whe
       → ((r : DescriptorChain) → Apart a n r.desc_table (desc_table_size r.queue_size) → Spared a n r.desc_table (looks stop k t m r))
       → Spared a n c.desc_table (pick b (c.next_index ∷ on_step s (λ d r. pick (stop d) [] (looks stop k t m r)) []) [])
   table' true k c (Next d r) e f h ih =
-      let w = step_falls t m c d r f in
-      (at_index _ _ _ h (reads_index c e), subst (λ (x : ℕ). Spared a n x (pick (stop d) [] (looks stop k t m r))) w.table
-      (table'' (stop d) r.desc_table (looks stop k t m r) (ih r (rw (w.table, w.size) h))))
+      let w = step_falls t m c d r f in (
+        at_index _ _ _ h (reads_index c e),
+        subst (λ (x : ℕ). Spared a n x (pick (stop d) [] (looks stop k t m r))) w.table
+            (table'' (stop d) r.desc_table (looks stop k t m r) (ih r (rw (w.table, w.size) h))),
+      )
   table' true k c End e f h ih = (at_index _ _ _ h (reads_index c e), tt)
   table' false k c s e f h ih = tt
 

@@ -28,7 +28,7 @@ use Rattle.ledger.specs.declared.Call.{Call}
 use Rattle.ledger.specs.declared.Call.TheVariants.{Set, SetNextAvail, SetNextUsed, Reset, Valid, Begin, NextHead, Pop, GoBack, Put, Stop, Ask, Question}
 use Rattle.ledger.specs.declared.Answer.{Answer}
 use Rattle.ledger.specs.declared.Step.{Step}
-use Rattle.ledger.specs.World.{World, Event, Guest, Device, Field, UsedEvent, step_of, step_mem, answer, after_call, after_guest, touched, field_addr, field_size, on_begun, on_taken, on_placed, on_stopped, on_asked, on_answered, step}
+use Rattle.ledger.specs.World.{World, Event, Guest, Device, Field, UsedEvent, step_of, step_mem, answer, after_call, after_guest, touched, field_addr, field_size, on_begun, on_taken, on_placed, on_stopped, on_asked, on_answered}
 use Rattle.ledger.specs.Calls.{step-length}
 
 -- two memories hold the same bytes at the places of n bytes from guest address a on; at those of some fields

@@ -126,7 +126,7 @@ in_old t size q [] l j h = h
 in_old t size q (f ∷ fs) l j h = inr (in_old t size q fs l j h)
 
 in_new : (t : Table) (size : ℕ) (q : Queue) (fs : List UsedField) (l : List Written) (j : ℕ) → InFields t size q fs j → LiesIn t size (with_fields q fs l) j
-in_new t size q [] l j x' = elim x' [ ]
+in_new t size q [] l j h = elim h [ ]
 in_new t size q (f ∷ fs) l j (inl h) = inl h
 in_new t size q (f ∷ fs) l j (inr h) = inr (in_new t size q fs l j h)
 

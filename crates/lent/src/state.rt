@@ -16,14 +16,14 @@ pub const STATE_SHORT: u32 = 65537;
 
 pub const STATE_FIELD: u32 = 65538;
 
-#[derive(Drop)]
+#[derive(Clone, Copy)]
 pub enum Loaded {
     Good(Queue),
     Bad(u32),
 }
 
 // The number that a call answers: with the queue after it, or alone where the state stays as it is.
-#[derive(Drop)]
+#[derive(Clone, Copy)]
 pub enum Reply {
     Now(u32, Queue),
     Same(u32),

@@ -1,7 +1,7 @@
 -- SPDX-License-Identifier: Apache-2.0 AND BSD-3-Clause
 -- A chain in six words that the caller lends, and the descriptors of a walk in an array: address, length and flags of each.
 use Prim.Native.Nat.{ℕ, zero, suc, ◌+◌, ◌-◌, ◌*◌, ◌/◌, ◌≤◌, ◌<◌, max}
-use Rattle.std.proofs.Common.{arith, ap, ◌∙◌, true≢false}
+use Rattle.std.proofs.Common.{arith, ap, ◌∙◌}
 use Rattle.std.specs.Prelude.{◌≡◌, refl, Bool, true, false, List, [], ◌∷◌, ◌++◌, length, get_or, leb}
 use Rattle.std.proofs.Math.Path.{sym}
 use Rattle.std.proofs.lemmas.List.Edits.{sets}
@@ -17,7 +17,6 @@ use Rattle.chain.specs.declared.Step.{Step}
 use Rattle.chain.specs.declared.Step.TheVariants.{Next, End}
 use Rattle.queue.specs.State.{pass}
 use Rattle.queue.specs.Avail.{head_of}
-use Rattle.queue.specs.declared.Queue.{Queue}
 use Rattle.queue.specs.declared.Taken.{Taken}
 use Rattle.queue.specs.declared.Taken.TheVariants.{Head, NoHead}
 use Rattle.lent.specs.State.{pick_true, load_of, kept}

@@ -26,28 +26,28 @@ pub const CHAIN_FIELD: u32 = 65550;
 // The array has no room for a descriptor.
 pub const NO_ROOM: u32 = 65551;
 
-#[derive(Drop)]
+#[derive(Clone, Copy)]
 pub enum Held {
     Chain(DescriptorChain),
     NoChain(u32),
 }
 
 // How many descriptors a walk yielded, and the chain behind them.
-#[derive(Drop)]
+#[derive(Clone, Copy)]
 pub struct Walked {
     pub count: u32,
     pub chain: DescriptorChain,
 }
 
 // The number that a call on a chain answers: with the chain after it, or alone where its words stay as they are.
-#[derive(Drop)]
+#[derive(Clone, Copy)]
 pub enum Went {
     On(u32, DescriptorChain),
     Stay(u32),
 }
 
 // What taking a head answers, before its chain is walked.
-#[derive(Drop)]
+#[derive(Clone, Copy)]
 pub enum Taking {
     Took(u16, Queue),
     Not(u32),

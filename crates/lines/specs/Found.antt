@@ -27,6 +27,7 @@ pub in_image : (size : ℕ) (r : Checked) → NoPlace r → InImage size r
 in_image size checked.Silent h = tt
 in_image size (checked.Bad f) h = tt
 in_image size (checked.Whole c) h = tt
+in_image size (checked.Place c start end) h = elim h [ ]
 in_image size (checked.Call call) h = tt
 
 pub place_in : (size : ℕ) (r : Checked) {c : Command} {start end : ℕ} → InImage size r → r ≡ checked.Place c start end

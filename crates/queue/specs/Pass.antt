@@ -6,7 +6,7 @@ use Rattle.std.proofs.Math.Decide.{dec_le}
 use native.Mathlib.Omega.{arith}
 use Rattle.std.proofs.Common.{sym, ◌∙◌}
 use Rattle.regions.specs.Table.{Table}
-use Rattle.queue.specs.State.{pass, with_next_avail, with_next_used, with_ready, with_event_idx}
+use Rattle.queue.specs.State.{with_next_avail, with_next_used, with_ready, with_event_idx}
 use Rattle.queue.specs.Wrap.{next16, sub16, sub16_lt, sub16-add, cancel16}
 use Rattle.queue.specs.Avail.{begin_of, begin_elim, head_of, head_elim, back_of}
 use Rattle.queue.specs.Used.{put_of, put_elim}

@@ -6,7 +6,7 @@ use Rattle.std.proofs.Math.Path.{refl}
 use Rattle.wire.specs.Number.{bytes}
 use Rattle.wire.specs.Part.{Apart}
 use Rattle.regions.specs.Table.{pick, Table, Maps, InMemory, Good}
-use Rattle.memory.specs.Access.{writable, writable-readable, readable_all, after, bytes_at, WroteBoth, Outside, Agree, after-length, after_refused, after_agree, after_elsewhere, after_unmapped, bytes_apart, bytes_back}
+use Rattle.memory.specs.Access.{writable, writable-readable, readable_all, after, bytes_at, WroteBoth, Outside, Agree, after-length, after_agree, after_elsewhere, after_unmapped, bytes_apart, bytes_back}
 use Rattle.desc.specs.Layout.{used_entry_addr, used_idx_addr}
 use Rattle.desc.specs.Desc.{used_bytes}
 use Rattle.queue.specs.State.{numbered}
