@@ -1,7 +1,7 @@
 /* SPDX-License-Identifier: Apache-2.0 AND BSD-3-Clause */
 /*
- * The device side of virtio's split queues, for C (C99) and C++. Link target/staticlib/libqueueledger_c.a, which
- * `rt staticlib queueledger_c` proves and builds; examples/c has a device's main loop.
+ * The device side of virtio's split queues, for C (C99) and C++. Link crates/queueledger_c/out/libqueueledger_c.a, which
+ * `rt lib` in crates/queueledger_c proves and builds; examples/c has a device's main loop.
  *
  * The library keeps nothing between calls and allocates nothing. Everything is lent: a slice is a pointer and the number
  * of its elements. Of a state, a chain or a table that is longer than it must be, the first words count.
