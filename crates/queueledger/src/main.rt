@@ -243,7 +243,7 @@ fn answer_line(
     out: &mut [u8],
 ) -> Progress {
     let state = s.state;
-    let number = s.lines.wrapping_add(1);
+    let number = std::num::wrapping_add_u64(s.lines, 1);
     let outcome = replay::line::run_line(line, state, space, table);
     match outcome {
         Outcome::Silent => next_line(rt, s, state, number, s.waiting, s.wrong, out),
