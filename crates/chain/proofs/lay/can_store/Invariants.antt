@@ -1,0 +1,10 @@
+-- SPDX-License-Identifier: Apache-2.0 AND BSD-3-Clause
+use Rattle.std.proofs.Common.{◌≡◌, ◌-◌, ◌≤◌, length}
+use Rattle.chain.specs.Links.{can_store, every}
+use Rattle.chain.proofs.lay.can_store.Given as goal
+
+abbrev pub invariant-loop-k : goal.invariant-loop-k
+invariant-loop-k l = (l.k ≤ length l.places) × (every (can_store l.regions l.size l.desc_table l.places) (length l.places - l.k) l.k ≡ every (can_store l.regions l.size l.desc_table l.places) (length l.places) 0)
+
+abbrev pub decreases-loop-k : goal.decreases-loop-k
+decreases-loop-k l = length l.places - l.k
