@@ -27,7 +27,7 @@ use Rattle.queue.specs.declared.Asked.{Asked}
 use Rattle.queue.specs.declared.Asked.TheVariants.{Enabled, NotEnabled}
 use Rattle.queue.specs.declared.Answered.{Answered}
 use Rattle.queue.specs.declared.Answered.TheVariants.{Needed, NotAnswered}
-use Rattle.lent.specs.State.{bit, on_loaded}
+use Rattle.lent.specs.State.{bit}
 use Rattle.lent.specs.declared.state.Loaded.{Loaded}
 use Rattle.lent.specs.declared.state.Loaded.TheVariants.{Good, Bad}
 use Rattle.lent.specs.declared.state.Reply.{Reply}

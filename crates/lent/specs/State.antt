@@ -5,8 +5,8 @@
 --   65,536          there is none
 --   above           a refusal: what the caller lent is as it was, but for a put that stands where its question can't be answered
 --                   (65,548), and for asking, which keeps a write that it made before the read that failed
-use Rattle.std.specs.Prelude.{ℕ, ◌+◌, ◌≤◌, ◌<◌, max, ◌≡◌, refl, Bool, true, false, not, List, [], ◌∷◌, length, get_or, eqb, leb}
-use Rattle.std.proofs.Common.{arith, ap, ◌∙◌, true≢false}
+use Rattle.std.specs.Prelude.{ℕ, ◌≤◌, ◌<◌, max, ◌≡◌, refl, Bool, true, false, not, List, [], ◌∷◌, length, get_or, eqb, leb}
+use Rattle.std.proofs.Common.{◌∙◌, true≢false}
 use Rattle.std.proofs.Math.Path.{sym}
 use Rattle.std.proofs.lemmas.List.Edits.{sets}
 use borrow.Author.Tests.{leb-true, le-leb, lt-leb}
