@@ -2,7 +2,7 @@
 // The eight numbers, in decimal, with blanks between them.
 ghost use Rattle.std.specs.Prelude.{◌≤◌};
 
-#[derive(Drop)]
+#[derive(Clone, Copy)]
 pub struct Numbers {
     pub rounds: u64,
     // The event index is on.
@@ -17,7 +17,7 @@ pub struct Numbers {
     pub len: usize,
 }
 
-#[derive(Drop)]
+#[derive(Clone, Copy)]
 pub enum Parsed {
     Good(Numbers),
     Bad,

@@ -5,21 +5,21 @@ use crate::input::Numbers;
 use chain::{DescriptorChain, Step};
 use queue::{Answered, Configured, Half, Placed, Queue, Taken};
 
-#[derive(Drop)]
+#[derive(Clone, Copy)]
 pub enum Start {
     Ready(Queue),
     Refused,
 }
 
 // The queue and what was added up so far.
-#[derive(Drop)]
+#[derive(Clone, Copy)]
 struct Sums {
     queue: Queue,
     sum: u64,
 }
 
 // What a walk adds up, and the length of the last descriptor.
-#[derive(Drop)]
+#[derive(Clone, Copy)]
 struct Walked {
     sum: u64,
     last: u32,
