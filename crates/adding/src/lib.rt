@@ -10,7 +10,7 @@ ghost use Rattle.adding.specs.Grow.{shares_r, shares_in, free_of, fault_of, Grow
 use regions::Place;
 
 // Why a region was not added, in the order of the tests.
-#[derive(Drop)]
+#[derive(Clone, Copy)]
 pub enum Adding {
     Added,
     // eight regions are there, or the table has no room for one more
