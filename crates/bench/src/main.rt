@@ -7,65 +7,78 @@ mod input; // input.rt: the eight numbers
 mod image; // image.rt: regions, descriptors, the available ring's entries, the checksum
 mod rounds; // rounds.rt: the driver's part and the device's
 
+ghost use Rattle.std.specs.Prelude.{◌≤◌, length, IfOk};
+
 use input::{Numbers, Parsed};
-use libc::{STDIN_FILENO, STDOUT_FILENO};
 use queue::Queue;
 use rounds::Start;
+use std::io;
+use std::io::Read;
 
-fn main() {
-    let mut text = io::buffer();
-    let n = io::read_full(STDIN_FILENO, &mut text);
+fn main(rt: HostRuntime) -> io::Result<()> {
+    let mut text = [0u8; 4096];
+    let n = read_full(&mut rt.reader(), &mut text)?;
     match input::parse(&text[..n]) {
-        Parsed::Good(numbers) => {
-            lend(numbers);
-        }
-        Parsed::Bad => {
-            refuse();
-        }
+        Parsed::Good(numbers) => lend(&rt, numbers),
+        Parsed::Bad => refuse(&rt),
     }
 }
 
-fn refuse() {
-    io::write_all(STDOUT_FILENO, b"refused\n");
+// Reads until the text is full or the input ends, and answers how many bytes came.
+fn read_full(input: &mut impl Read, text: &mut [u8]) -> io::Result<usize>
+    ensures { IfOk result (λ n. n ≤ length text.new) }
+{
+    let mut n = 0;
+    while n < text.len() {
+        let more = input.read(&mut text[n..])?;
+        if more == 0 {
+            break;
+        }
+        n += more;
+    }
+    Ok(n)
+}
+
+fn refuse(rt: &impl Print) -> io::Result<()> {
+    println!(rt; "refused")
 }
 
 // The image and the table are lent from here on.
-fn lend(n: Numbers) {
-    let mut space = io::large_buffer();
+fn lend(rt: &impl Print, n: Numbers) -> io::Result<()> {
+    let mut space = [0u8; 65536];
     let mut table = [0u64; 24];
     if 65536 < n.len {
-        refuse();
-        return;
+        return refuse(rt);
     }
-    cut(n, 65536 - n.len, &mut space, &mut table);
+    cut(rt, n, 65536 - n.len, &mut space, &mut table)
 }
 
 // The image is what the space has from a place on.
-fn cut(n: Numbers, from: usize, space: &mut [u8], table: &mut [u64]) {
+fn cut(
+    rt: &impl Print,
+    n: Numbers,
+    from: usize,
+    space: &mut [u8],
+    table: &mut [u64],
+) -> io::Result<()> {
     if from <= space.len() {
-        work(n, &mut space[from..], table);
+        work(rt, n, &mut space[from..], table)
     } else {
-        refuse();
+        refuse(rt)
     }
 }
 
-fn work(n: Numbers, mem: &mut [u8], table: &mut [u64]) {
+fn work(rt: &impl Print, n: Numbers, mem: &mut [u8], table: &mut [u64]) -> io::Result<()> {
     image::add_regions(n.regions, mem.len(), table);
     image::lay(n, table, mem);
     match rounds::configure(n) {
-        Start::Ready(q) => {
-            run(n, q, table, mem);
-        }
-        Start::Refused => {
-            refuse();
-        }
+        Start::Ready(q) => run(rt, n, q, table, mem),
+        Start::Refused => refuse(rt),
     }
 }
 
-fn run(n: Numbers, q: Queue, table: &[u64], mem: &mut [u8]) {
+fn run(rt: &impl Print, n: Numbers, q: Queue, table: &[u64], mem: &mut [u8]) -> io::Result<()> {
     let sum = rounds::all(n, q, table, mem);
-    io::print_decimal(STDOUT_FILENO, sum);
-    io::write_all(STDOUT_FILENO, b" ");
-    io::print_decimal(STDOUT_FILENO, image::checksum(mem));
-    io::write_all(STDOUT_FILENO, b"\n");
+    let checksum = image::checksum(mem);
+    println!(rt; "{sum} {checksum}")
 }

@@ -8,7 +8,7 @@ ghost use Rattle.chain.specs.Steps.{chain_at, walk_of};
 
 use chain::lay::Laid;
 use chain::{DescriptorChain, Step};
-use libc::STDOUT_FILENO;
+use std::io;
 
 // How many descriptors the chain from head on has.
 fn count(regions: &[u64], mem: &[u8], head: u16) -> u16
@@ -30,37 +30,21 @@ fn count(regions: &[u64], mem: &[u8], head: u16) -> u16
     n
 }
 
-fn say(text: &[u8], n: u16) {
-    io::write_all(STDOUT_FILENO, text);
-    io::print_decimal(STDOUT_FILENO, n as u64);
-    io::write_all(STDOUT_FILENO, b"\n");
+fn say(rt: &impl Print, text: &str, n: u16) -> io::Result<()> {
+    println!(rt; "{text}{n}")
 }
 
-fn say_laid(text: &[u8], laid: Laid) {
-    io::write_all(STDOUT_FILENO, text);
-    match laid {
-        Laid::Done => {
-            io::write_all(STDOUT_FILENO, b"laid\n");
-        }
-        Laid::BadCount => {
-            io::write_all(STDOUT_FILENO, b"refused, count\n");
-        }
-        Laid::BadPlace => {
-            io::write_all(STDOUT_FILENO, b"refused, place beyond the table\n");
-        }
-        Laid::SamePlace => {
-            io::write_all(STDOUT_FILENO, b"refused, place named twice\n");
-        }
-        Laid::Indirect => {
-            io::write_all(STDOUT_FILENO, b"refused, indirect\n");
-        }
-        Laid::TooLong => {
-            io::write_all(STDOUT_FILENO, b"refused, sum of lengths\n");
-        }
-        Laid::Unmapped => {
-            io::write_all(STDOUT_FILENO, b"refused, memory\n");
-        }
-    }
+fn say_laid(rt: &impl Print, text: &str, laid: Laid) -> io::Result<()> {
+    let word = match laid {
+        Laid::Done => "laid",
+        Laid::BadCount => "refused, count",
+        Laid::BadPlace => "refused, place beyond the table",
+        Laid::SamePlace => "refused, place named twice",
+        Laid::Indirect => "refused, indirect",
+        Laid::TooLong => "refused, sum of lengths",
+        Laid::Unmapped => "refused, memory",
+    };
+    println!(rt; "{text}{word}")
 }
 
 // Two descriptors at the places a and b, in a table of 8 descriptors at guest address table.
@@ -82,7 +66,8 @@ fn lay_two(
 }
 
 fn lay(
-    text: &[u8],
+    rt: &impl Print,
+    text: &str,
     regions: &[u64],
     mem: &mut [u8],
     table: u64,
@@ -91,31 +76,30 @@ fn lay(
     x: u32,
     y: u32,
     g: u16,
-) {
-    say_laid(text, lay_two(regions, mem, table, a, b, x, y, g));
+) -> io::Result<()> {
+    say_laid(rt, text, lay_two(regions, mem, table, a, b, x, y, g))
 }
 
-fn lay_uneven(text: &[u8], regions: &[u64], mem: &mut [u8]) {
+fn lay_uneven(rt: &impl Print, text: &str, regions: &[u64], mem: &mut [u8]) -> io::Result<()> {
     let places = [6u16, 2];
     let addrs = [4096u64, 8192];
     let lens = [5u32, 7, 9];
     let flags = [0u16, 2];
-    say_laid(
-        text,
-        chain::lay::lay_chain(regions, mem, 0, 8, &places, &addrs, &lens, &flags),
-    );
+    let laid = chain::lay::lay_chain(regions, mem, 0, 8, &places, &addrs, &lens, &flags);
+    say_laid(rt, text, laid)
 }
 
-fn misplaced(regions: &[u64], mem: &mut [u8]) {
-    lay_uneven(b"three lengths for two places: ", regions, mem);
-    lay(b"a place of 8: ", regions, mem, 0, 6, 8, 5, 7, 2);
-    lay(b"place 6 twice: ", regions, mem, 0, 6, 6, 5, 7, 2);
+fn misplaced(rt: &impl Print, regions: &[u64], mem: &mut [u8]) -> io::Result<()> {
+    lay_uneven(rt, "three lengths for two places: ", regions, mem)?;
+    lay(rt, "a place of 8: ", regions, mem, 0, 6, 8, 5, 7, 2)?;
+    lay(rt, "place 6 twice: ", regions, mem, 0, 6, 6, 5, 7, 2)
 }
 
-fn unlawful(regions: &[u64], mem: &mut [u8]) {
-    lay(b"flag 4: ", regions, mem, 0, 6, 2, 5, 7, 4);
+fn unlawful(rt: &impl Print, regions: &[u64], mem: &mut [u8]) -> io::Result<()> {
+    lay(rt, "flag 4: ", regions, mem, 0, 6, 2, 5, 7, 4)?;
     lay(
-        b"lens 0xffffffff and 1: ",
+        rt,
+        "lens 0xffffffff and 1: ",
         regions,
         mem,
         0,
@@ -124,15 +108,16 @@ fn unlawful(regions: &[u64], mem: &mut [u8]) {
         0xffffffff,
         1,
         0,
-    );
-    lay(b"a table at 240: ", regions, mem, 240, 0, 1, 5, 7, 2);
+    )?;
+    lay(rt, "a table at 240: ", regions, mem, 240, 0, 1, 5, 7, 2)
 }
 
-fn main() {
+fn main(rt: HostRuntime) -> io::Result<()> {
     let regions = [0u64, 256, 0];
     let mut mem = [0u8; 256];
     lay(
-        b"lens 5 and 7 at places 6 and 2, the second writable: ",
+        &rt,
+        "lens 5 and 7 at places 6 and 2, the second writable: ",
         &regions,
         &mut mem,
         0,
@@ -141,12 +126,13 @@ fn main() {
         5,
         7,
         2,
-    );
-    say(b"  descriptors from 6 on: ", count(&regions, &mem, 6));
-    misplaced(&regions, &mut mem);
-    unlawful(&regions, &mut mem);
+    )?;
+    say(&rt, "  descriptors from 6 on: ", count(&regions, &mem, 6))?;
+    misplaced(&rt, &regions, &mut mem)?;
+    unlawful(&rt, &regions, &mut mem)?;
     say(
-        b"and still descriptors from 6 on: ",
+        &rt,
+        "and still descriptors from 6 on: ",
         count(&regions, &mem, 6),
-    );
+    )
 }

@@ -13,7 +13,7 @@ use script::words::Word;
 pub const LONGEST_LINE: usize = 4095;
 
 // A line that can be run, with what it needs; or why it can't.
-#[derive(Drop)]
+#[derive(Clone, Copy)]
 pub enum Checked {
     Silent,
     Bad(Fault),
@@ -25,7 +25,7 @@ pub enum Checked {
 }
 
 // A command of the device, with what it works on.
-#[derive(Drop)]
+#[derive(Clone, Copy)]
 pub enum Call {
     Make,
     Config(Command, Queue),

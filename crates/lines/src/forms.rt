@@ -3,7 +3,7 @@
 use script::commands::Command;
 
 // What a command needs, and so where it is run.
-#[derive(Drop)]
+#[derive(Clone, Copy)]
 pub enum Needs {
     // nothing but the image
     Whole,

@@ -5,25 +5,25 @@ use chain::DescriptorChain;
 use desc::Descriptor;
 use queue::{AvailIter, Error, Queue};
 
-#[derive(Drop)]
+#[derive(Clone, Copy)]
 pub enum CurrentQueue {
     Queue(Queue),
     NoQueue,
 }
 
-#[derive(Drop)]
+#[derive(Clone, Copy)]
 pub enum CurrentPass {
     Pass(AvailIter),
     NoPass,
 }
 
-#[derive(Drop)]
+#[derive(Clone, Copy)]
 pub enum CurrentChain {
     Chain(DescriptorChain),
     NoChain,
 }
 
-#[derive(Drop)]
+#[derive(Clone, Copy)]
 pub struct State {
     // The image's length.
     pub size: usize,
@@ -35,7 +35,7 @@ pub struct State {
 }
 
 // Why a line is an error, in the order of the tests.
-#[derive(Drop)]
+#[derive(Clone, Copy)]
 pub enum Fault {
     TooLong,
     UnknownCommand,
@@ -48,7 +48,7 @@ pub enum Fault {
 }
 
 // What a command answers.
-#[derive(Drop)]
+#[derive(Clone, Copy)]
 pub enum Answer {
     Fine,
     Yes,
@@ -69,14 +69,14 @@ pub enum Answer {
 }
 
 // The state after a command, and its answer.
-#[derive(Drop)]
+#[derive(Clone, Copy)]
 pub struct Done {
     pub state: State,
     pub answer: Answer,
 }
 
 // What became of a line. One without words and one that is an error hand back no state: the caller's own is still the one.
-#[derive(Drop)]
+#[derive(Clone, Copy)]
 pub enum Outcome {
     Silent,
     Wrong(Fault),

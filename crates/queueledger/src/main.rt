@@ -1,13 +1,17 @@
 // SPDX-License-Identifier: Apache-2.0 AND BSD-3-Clause
-// Runs a script of the replay language from standard input, and writes its answers to standard output. What an exit status would tell
-// goes to standard error, a line for each thing: a program has no exit status, and the command that runs this one makes it.
+// Runs a script of the replay language from standard input, and writes its answers to standard output. What became of it goes to
+// standard error, a line for each thing, and the command that runs this one makes an exit status of that; this one's own is 0, but for
+// CLOSED.
 #![tactic(auto)]
 
-use libc::{STDERR_FILENO, STDIN_FILENO, STDOUT_FILENO};
+ghost use Rattle.std.specs.Prelude.{◌≤◌, length};
+
 use lines::state::{Done, Outcome, State};
+use std::io::{ErrorKind, Read};
+use std::process::ExitCode;
 
 // What is known between two lines.
-#[derive(Drop)]
+#[derive(Clone, Copy)]
 struct Progress {
     state: State,
     // How many lines have ended, and how many bytes of the next one are there.
@@ -21,61 +25,75 @@ struct Progress {
     ended: bool,
     unread: bool,
     unwritten: bool,
+    // The write failed since nobody reads the answers any more.
+    closed: bool,
 }
 
 // Answers are written when there may be no room for one more.
 const FULL: usize = 65536 - wording::LONGEST_ANSWER;
 
-fn main() {
-    lend([0; 1048576]);
+// The status where the reader of the answers has closed its pipe, without a message. It is the one that a shell shows for a program that
+// the signal SIGPIPE ended, and which that signal, which the runtime holds back, would else have given.
+const CLOSED: u8 = 141;
+
+fn main(rt: HostRuntime) -> ExitCode {
+    lend(&rt, [0; 1048576])
 }
 
 // The largest image that there is; a line buffer one byte longer than a line may be; and room for answers.
-fn lend(mut space: [u8; 1048576]) {
+fn lend(rt: &(impl Input + Print + Eprint), mut space: [u8; 1048576]) -> ExitCode {
     let mut table = [0u64; 24];
     let mut line = [0u8; 4096];
     let mut out = [0u8; 65536];
-    run(&mut space, &mut table, &mut line, &mut out);
+    run(rt, &mut space, &mut table, &mut line, &mut out)
 }
 
-fn run(space: &mut [u8], table: &mut [u64], line: &mut [u8], out: &mut [u8]) {
-    let s = read_all(start(), space, table, line, out);
-    end_script(s, space, table, line, out);
+fn run(
+    rt: &(impl Input + Print + Eprint),
+    space: &mut [u8],
+    table: &mut [u64],
+    line: &mut [u8],
+    out: &mut [u8],
+) -> ExitCode {
+    let mut input = rt.reader();
+    let s = read_all(rt, &mut input, start(), space, table, line, out);
+    end_script(rt, s, space, table, line, out)
 }
 
 // The last line may lack its line feed. Where a read failed it is no line: nobody knows how it goes on.
-fn end_script(s: Progress, space: &mut [u8], table: &mut [u64], line: &[u8], out: &mut [u8]) {
+fn end_script(
+    rt: &(impl Print + Eprint),
+    s: Progress,
+    space: &mut [u8],
+    table: &mut [u64],
+    line: &[u8],
+    out: &mut [u8],
+) -> ExitCode {
     if s.unread {
-        report(s);
-        return;
+        return report(rt, s);
     }
     if s.begun == 0 {
-        report(s);
-        return;
+        return report(rt, s);
     }
-    let last = end_line(s, space, table, line, out);
-    report(write_waiting(last, out));
+    let last = end_line(rt, s, space, table, line, out);
+    report(rt, write_waiting(rt, last, out))
 }
 
-fn report(s: Progress) {
+// Where standard error takes nothing nobody is left to tell.
+fn report(rt: &impl Eprint, s: Progress) -> ExitCode {
+    if s.closed {
+        return ExitCode::from(CLOSED);
+    }
     if s.unread {
-        io::write_all(
-            STDERR_FILENO,
-            b"queueledger: the script could not be read\n",
-        );
+        let _ = rt.eprintln("queueledger: the script could not be read");
     }
     if s.unwritten {
-        io::write_all(
-            STDERR_FILENO,
-            b"queueledger: an answer could not be written\n",
-        );
+        let _ = rt.eprintln("queueledger: an answer could not be written");
     }
     if s.wrong {
-        io::write_all(
-            STDERR_FILENO,
-            b"queueledger: a line was answered with an error\n",
-        );
+        let _ = rt.eprintln("queueledger: a line was answered with an error");
     }
+    ExitCode::SUCCESS
 }
 
 fn start() -> Progress {
@@ -88,11 +106,14 @@ fn start() -> Progress {
         ended: false,
         unread: false,
         unwritten: false,
+        closed: false,
     }
 }
 
 // A proved loop has to end, and nothing says that the input does: so it counts down from a number that no run uses up.
 fn read_all(
+    rt: &impl Print,
+    input: &mut impl Read,
     from: Progress,
     space: &mut [u8],
     table: &mut [u64],
@@ -105,7 +126,7 @@ fn read_all(
         if s.ended {
             return s;
         }
-        s = read_some(s, space, table, line, out);
+        s = read_some(rt, input, s, space, table, line, out);
         turns -= 1;
     }
     s
@@ -113,19 +134,23 @@ fn read_all(
 
 // One read, and the lines that end in it. Their answers are written before the next read, which may have to wait.
 fn read_some(
+    rt: &impl Print,
+    input: &mut impl Read,
     s: Progress,
     space: &mut [u8],
     table: &mut [u64],
     line: &mut [u8],
     out: &mut [u8],
 ) -> Progress {
-    let mut buffer = io::large_buffer();
-    let got = libc::read(STDIN_FILENO, &mut buffer);
-    if got <= 0 {
-        return end_of(s, got < 0);
+    let mut buffer = [0u8; 65536];
+    match input.read(&mut buffer) {
+        Ok(0) => end_of(s, false),
+        Ok(n) => {
+            let fed = feed(rt, &buffer[..n], s, space, table, line, out);
+            write_waiting(rt, fed, out)
+        }
+        Err(_) => end_of(s, true),
     }
-    let n = io::count(got, &buffer);
-    write_waiting(feed(&buffer[..n], s, space, table, line, out), out)
 }
 
 fn end_of(mut s: Progress, unread: bool) -> Progress {
@@ -135,6 +160,7 @@ fn end_of(mut s: Progress, unread: bool) -> Progress {
 }
 
 fn feed(
+    rt: &impl Print,
     part: &[u8],
     from: Progress,
     space: &mut [u8],
@@ -145,15 +171,27 @@ fn feed(
     let mut s = from;
     let mut i = 0;
     while i < part.len() {
-        let end = bytes::scan::find(part, i, part.len(), b'\n');
+        let end = find(part, i, b'\n');
         s = longer(s, line, &part[i..end]);
         if part.len() <= end {
             return s;
         }
         i = end + 1;
-        s = end_line(s, space, table, line, out);
+        s = end_line(rt, s, space, table, line, out);
     }
     s
+}
+
+// Where the first b from a place on is, or where the bytes end.
+fn find(part: &[u8], from: usize, b: u8) -> usize
+    requires { from ≤ length part.now }
+    ensures from { from ≤ result }
+    ensures within { result ≤ length part.now }
+{
+    match part[from..].iter().position(|x| *x == b) {
+        Some(k) => from + k,
+        None => part.len(),
+    }
 }
 
 fn longer(mut s: Progress, line: &mut [u8], part: &[u8]) -> Progress {
@@ -182,6 +220,7 @@ fn store(line: &mut [u8], at: usize, b: u8) -> usize {
 }
 
 fn end_line(
+    rt: &impl Print,
     s: Progress,
     space: &mut [u8],
     table: &mut [u64],
@@ -192,10 +231,11 @@ fn end_line(
     if line.len() < begun {
         return s;
     }
-    answer_line(s, space, table, &line[0..begun], out)
+    answer_line(rt, s, space, table, &line[0..begun], out)
 }
 
 fn answer_line(
+    rt: &impl Print,
     s: Progress,
     space: &mut [u8],
     table: &mut [u64],
@@ -206,16 +246,17 @@ fn answer_line(
     let number = std::num::wrapping_add_u64(s.lines, 1);
     let outcome = replay::line::run_line(line, state, space, table);
     match outcome {
-        Outcome::Silent => next_line(s, state, number, s.waiting, s.wrong, out),
+        Outcome::Silent => next_line(rt, s, state, number, s.waiting, s.wrong, out),
         Outcome::Wrong(fault) => {
             let waiting = wording::write_fault(out, s.waiting, number, fault);
-            next_line(s, state, number, waiting, true, out)
+            next_line(rt, s, state, number, waiting, true, out)
         }
-        Outcome::Ran(done) => answer(done, s, number, space, line, out),
+        Outcome::Ran(done) => answer(rt, done, s, number, space, line, out),
     }
 }
 
 fn answer(
+    rt: &impl Print,
     done: Done,
     s: Progress,
     number: u64,
@@ -226,10 +267,11 @@ fn answer(
     let state = done.state;
     let said = done.answer;
     let longer = wording::write_answer(out, s.waiting, line, said, space);
-    next_line(s, state, number, longer, s.wrong, out)
+    next_line(rt, s, state, number, longer, s.wrong, out)
 }
 
 fn next_line(
+    rt: &impl Print,
     before: Progress,
     state: State,
     lines: u64,
@@ -246,30 +288,32 @@ fn next_line(
         ended: before.ended,
         unread: before.unread,
         unwritten: before.unwritten,
+        closed: before.closed,
     };
     if waiting < FULL {
         return s;
     }
-    write_waiting(s, out)
+    write_waiting(rt, s, out)
 }
 
 // After a write that failed none is tried: else an answer could be missing among those that are there.
-fn write_waiting(mut s: Progress, out: &[u8]) -> Progress {
+fn write_waiting(rt: &impl Print, mut s: Progress, out: &[u8]) -> Progress {
     let waiting = s.waiting;
     s.waiting = 0;
     if s.unwritten {
         return s;
     }
     if waiting <= out.len() {
-        if !io::write_all(STDOUT_FILENO, &out[0..waiting]) {
-            return unwritten(s);
+        if let Err(e) = rt.write_all(&out[0..waiting]) {
+            return unwritten(s, e.kind() == ErrorKind::BrokenPipe);
         }
     }
     s
 }
 
-fn unwritten(mut s: Progress) -> Progress {
+fn unwritten(mut s: Progress, closed: bool) -> Progress {
     s.ended = true;
     s.unwritten = true;
+    s.closed = closed;
     s
 }

@@ -31,7 +31,7 @@ fn stepped(st: State, rest: DescriptorChain, step: Step) -> Done {
 }
 
 // A chain walked to its end: how many descriptors came, the sum of their bytes so far, and what the chain has come to.
-#[derive(Drop)]
+#[derive(Clone, Copy)]
 struct Ended {
     count: u16,
     sum: u32,

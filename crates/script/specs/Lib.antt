@@ -1,5 +1,6 @@
 -- SPDX-License-Identifier: Apache-2.0 AND BSD-3-Clause
 pub mod Text
+pub mod Scan
 pub mod Words
 pub mod WordFacts
 pub mod Numbers

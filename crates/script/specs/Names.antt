@@ -10,7 +10,7 @@ use mathlib.Core.List.{List, [], ◌∷◌}
 use native.Mathlib.Omega.{arith}
 use Rattle.std.proofs.Math.ListN.{length, take, drop, length-drop, get_or-eq_default}
 use Rattle.std.proofs.Math.Seq.{take-length}
-use Rattle.bytes.specs.Bytes.{slice, index_of, index_after}
+use Rattle.script.specs.Scan.{slice, index_of, index_after}
 use Rattle.script.specs.Text.{text_bytes}
 use Rattle.script.specs.Commands.{table, same_bytes, command_in, command_of, same_bytes_yes, same_bytes_no}
 use Rattle.script.specs.declared.commands.Command.{Command}

@@ -5,7 +5,7 @@ ghost use Rattle.script.specs.Words.{word_bytes};
 ghost use Rattle.script.specs.Commands.{table, command_of};
 ghost use Rattle.script.specs.Names.{commands_of, names_in, place_of};
 
-#[derive(Drop)]
+#[derive(Clone, Copy)]
 pub enum Command {
     Memory,
     Region,
@@ -74,7 +74,7 @@ fn place_of(word: &[u8], names: &[u8]) -> usize
     let mut place = 0;
     let mut at = 0;
     while at < names.len() {
-        let end = bytes::scan::find(names, at, names.len(), b' ');
+        let end = crate::scan::find(names, at, names.len(), b' ');
         if check::same(word, &names[at..end]) {
             return place;
         }

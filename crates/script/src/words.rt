@@ -4,7 +4,7 @@ ghost use Rattle.std.specs.Prelude.{◌≡◌, drop};
 ghost use Rattle.script.specs.Words.{kind_of, word_from, word_end};
 
 // What a byte is to the words of a line.
-#[derive(Drop)]
+#[derive(Clone, Copy)]
 pub enum Kind {
     Blank,
     Comment,
@@ -12,7 +12,7 @@ pub enum Kind {
 }
 
 // The place of a word's first byte, and the place after its last.
-#[derive(Drop)]
+#[derive(Clone, Copy)]
 pub enum Word {
     At(usize, usize),
     NoMore,

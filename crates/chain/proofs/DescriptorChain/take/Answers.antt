@@ -11,6 +11,7 @@ pub returns-then-self-d : goal.returns-then-self-d
 returns-then-self-d c = sym (taken_past _ _ (sym c.if-refers_to_indirect_table.ensures) (omega arith))
 
 pub returns : goal.returns
-returns c = elim c.if-has_next.branch
-    [ then-has_next w ↦ taken_on_lem _ _ (sym c.if-refers_to_indirect_table.ensures) (omega arith) _ _ (sym w.if-has_next.ensures) w.next_index-is w.ttl-is
-    | else-has_next w ↦ taken_last _ _ (sym c.if-refers_to_indirect_table.ensures) (omega arith) _ _ (sym w.if-has_next.ensures) w.next_index-is w.ttl-is ]
+returns c = elim c.if-has_next.branch [
+  | then-has_next w ↦ taken_on_lem _ _ (sym c.if-refers_to_indirect_table.ensures) (omega arith) _ _ (sym w.if-has_next.ensures) w.next_index-is w.ttl-is
+  | else-has_next w ↦ taken_last _ _ (sym c.if-refers_to_indirect_table.ensures) (omega arith) _ _ (sym w.if-has_next.ensures) w.next_index-is w.ttl-is
+]
