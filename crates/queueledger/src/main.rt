@@ -32,8 +32,8 @@ struct Progress {
 // Answers are written when there may be no room for one more.
 const FULL: usize = 65536 - wording::LONGEST_ANSWER;
 
-// The status where the reader of the answers has closed its pipe, without a message. It is the one that a shell shows for a program that
-// the signal SIGPIPE ended, and which that signal, which the runtime holds back, would else have given.
+// The status, with no message, where the reader of the answers has closed its pipe: the one that a shell shows for a program that the
+// signal SIGPIPE ended. The runtime holds that signal back, and the write fails instead.
 const CLOSED: u8 = 141;
 
 fn main(rt: HostRuntime) -> ExitCode {
