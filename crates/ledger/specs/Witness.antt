@@ -127,7 +127,7 @@ outside_agrees m x y =
     }
 
 -- ---- what is needed
--- `Good`, for ``put_written``: guest addresses 2 and 4 share a byte, so writing idx spoils the entry of head 0
+-- `Good`, for `put_written`: guest addresses 2 and 4 share a byte, so writing idx spoils the entry of head 0
 pub clash : Table
 clash = 0 ∷ 4 ∷ 0 ∷ 4 ∷ 28 ∷ 2 ∷ []
 
