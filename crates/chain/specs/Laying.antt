@@ -4,7 +4,7 @@ use Prim.Native.Nat.{ℕ, zero, suc, ◌+◌, ◌-◌, ◌*◌, ◌/◌, ◌%◌
 use Rattle.std.proofs.Math.Nat.{sub-zero}
 use Rattle.std.proofs.Common.{add-zero, add-one, ap, ◌∙◌, inl, inr, true≢false}
 use native.Mathlib.Omega.{arith}
-use Rattle.std.specs.Prelude.{◌≡◌, ◌⊎◌, Bool, true, false, not, List, [], ◌∷◌, length, get_or, ltb, leb, eqb}
+use Rattle.std.specs.Prelude.{◌≡◌, Bool, true, false, not, List, length, get_or, ltb, leb, eqb}
 use Rattle.std.proofs.Math.Path.{refl, sym}
 use Rattle.std.proofs.Math.ListN.{get_or-eq_default}
 use borrow.Author.Tests.{lt-ltb, le-ltb, le-leb, lt-leb, eq-eqb, ne_eqb, ltb-true, ltb-false, leb-true, eqb-true, eqb-false, not-true, not-false}
@@ -14,11 +14,11 @@ use Rattle.memory.specs.Access.{writable, after, after-length, Wrote}
 use Rattle.desc.specs.Layout.{desc_addr}
 use Rattle.desc.specs.Desc.{descriptor, desc_bytes, has_next, is_indirect, desc_at, FitsDesc, desc_apart, desc_back}
 use Rattle.desc.specs.declared.Descriptor.{Descriptor}
-use Rattle.desc.specs.declared.Found.TheVariants.{Desc, NoDesc}
+use Rattle.desc.specs.declared.Found.TheVariants.{Desc}
 use Rattle.chain.specs.Sequence.{entry, Chain, last, more, sum_max, total, AllDirect, Lawful}
 use Rattle.chain.specs.Walk.{entry_in}
 use Rattle.chain.specs.Right.{lawful_yields, lawful_filtered}
-use Rattle.chain.specs.Links.{Listed, link_flags, link, links_from, links, stored, every, counted, below, differs, fresh, direct, can_store, lay_of, is_done, WalksTo, LaidDown}
+use Rattle.chain.specs.Links.{Listed, link_flags, link, links_from, links, stored, every, counted, below, differs, fresh, direct, can_store, lay_of, is_done, LaidDown}
 use Rattle.chain.specs.declared.lay.Laid.{Laid}
 use Rattle.chain.specs.declared.lay.Laid.TheVariants.{Done, BadCount, BadPlace, SamePlace, Indirect, TooLong, Unmapped}
 

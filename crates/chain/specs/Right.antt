@@ -1,7 +1,7 @@
 -- SPDX-License-Identifier: Apache-2.0 AND BSD-3-Clause
 -- The walk is right about VIRTIO 1.2, 2.7.5: it is the sequence that NEXT and next give, cut as docs/QUEUE.md says (section 4); a lawful chain is walked
 -- whole, and then there is none.
-use Rattle.std.specs.Prelude.{ℕ, zero, suc, ◌+◌, ◌-◌, ◌<◌, ◌≤◌, ◌≡◌, Bool, true, false, List, [], ◌∷◌, length, leb}
+use Rattle.std.specs.Prelude.{ℕ, zero, suc, ◌+◌, ◌-◌, ◌≤◌, ◌≡◌, Bool, true, false, List, [], ◌∷◌, length, leb}
 use Rattle.std.proofs.Common.{arith, sym, ap, ◌∙◌, le-leb, leb-true, leb-false}
 use Rattle.std.proofs.Math.Path.{refl}
 use Rattle.regions.specs.Table.{pick, Table}
@@ -9,11 +9,10 @@ use Rattle.desc.specs.Desc.{has_next, is_indirect}
 use Rattle.desc.specs.declared.Descriptor.{Descriptor}
 use Rattle.desc.specs.declared.Found.{Found}
 use Rattle.desc.specs.declared.Found.TheVariants.{Desc, NoDesc}
-use Rattle.chain.specs.Sequence.{entry, on_found, Chain, last, more, sequence, sum_max, total, AllDirect, Lawful, cut, only}
+use Rattle.chain.specs.Sequence.{entry, Chain, last, more, sequence, sum_max, total, AllDirect, Lawful, cut, only}
 use Rattle.chain.specs.Steps.{chain_at, behind, next_entry, step_of, Yields, walk_of, filtered_of}
 use Rattle.chain.specs.Walk.{taken_indirect, taken_past, taken_next, step_ration, step_read, walk_end, walk_next, walk_yields, filtered_yields}
 use Rattle.chain.specs.declared.DescriptorChain.{DescriptorChain}
-use Rattle.chain.specs.declared.Step.TheVariants.{Next, End}
 
 -- ---- cut
 module _ (s : ℕ) (d : Descriptor) (ds : List Descriptor) where

@@ -1,8 +1,8 @@
 -- SPDX-License-Identifier: Apache-2.0 AND BSD-3-Clause
 -- What a walk does not depend on: bytes that the table of regions does not map (isolation), and writes apart from the descriptors that it reads.
-use Prim.Native.Nat.{ℕ, zero, suc, ◌+◌, ◌*◌, ◌<◌, ◌≤◌}
-use Rattle.std.proofs.Common.{arith, sym, ap, ◌∙◌, inl, inr, true≢false, ltb-true}
-use Rattle.std.specs.Prelude.{◌≡◌, ◌⊎◌, Bool, true, false, List, [], ◌∷◌, length, ltb}
+use Prim.Native.Nat.{ℕ, zero, suc, ◌<◌}
+use Rattle.std.proofs.Common.{arith, sym, ap, ◌∙◌, inl, inr, true≢false}
+use Rattle.std.specs.Prelude.{◌≡◌, Bool, true, false, List, [], ◌∷◌, length, ltb}
 use Rattle.std.proofs.Math.Path.{refl, subst}
 use Rattle.wire.specs.Part.{Apart}
 use Rattle.regions.specs.Table.{pick, Table, Good}
@@ -10,11 +10,10 @@ use Rattle.memory.specs.Access.{after, Agree}
 use Rattle.desc.specs.Layout.{desc_addr, desc_table_size}
 use Rattle.desc.specs.Desc.{desc_at, desc_agree, desc_apart}
 use Rattle.desc.specs.declared.Descriptor.{Descriptor}
-use Rattle.desc.specs.declared.Found.{Found}
-use Rattle.desc.specs.declared.Found.TheVariants.{Desc, NoDesc}
+use Rattle.desc.specs.declared.Found.TheVariants.{NoDesc}
 use Rattle.chain.specs.Sequence.{entry, on_found, wanted}
-use Rattle.chain.specs.Steps.{taken, next_entry, step_of, on_step, walk, walk_of, seek, filtered_of, reads, looks, looked_of}
-use Rattle.chain.specs.Walk.{Falls, step_falls, step_ration, step_index, reads_index, yields_reads, walk_enough, seek_enough}
+use Rattle.chain.specs.Steps.{taken, step_of, on_step, walk, walk_of, seek, filtered_of, reads, looks, looked_of}
+use Rattle.chain.specs.Walk.{step_falls, reads_index, yields_reads, walk_enough, seek_enough}
 use Rattle.chain.specs.declared.DescriptorChain.{DescriptorChain}
 use Rattle.chain.specs.declared.Step.{Step}
 use Rattle.chain.specs.declared.Step.TheVariants.{Next, End}

@@ -1,6 +1,6 @@
 -- SPDX-License-Identifier: Apache-2.0 AND BSD-3-Clause
 -- What the calls on a chain answer, for every chain value and every memory: definitions only.
-use Rattle.std.specs.Prelude.{ℕ, zero, suc, ◌+◌, ◌-◌, ◌≤◌, ◌≡◌, Bool, true, false, List, [], ◌∷◌, length, ltb, leb}
+use Rattle.std.specs.Prelude.{ℕ, zero, suc, ◌+◌, ◌-◌, ◌≤◌, ◌≡◌, Bool, false, List, [], ◌∷◌, length, ltb, leb}
 use Rattle.regions.specs.Table.{pick, Table}
 use Rattle.desc.specs.Desc.{has_next, is_indirect}
 use Rattle.desc.specs.declared.Descriptor.{Descriptor}

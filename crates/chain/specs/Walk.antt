@@ -1,16 +1,16 @@
 -- SPDX-License-Identifier: Apache-2.0 AND BSD-3-Clause
 -- The laws of a step, a filtered step and a walk.
 use Prim.Native.Nat.{ℕ, zero, suc, ◌+◌, ◌-◌, ◌<◌, ◌≤◌, zero-le}
-use Rattle.std.proofs.Common.{arith, ap, ◌∙◌, inl, inr, true≢false}
+use Rattle.std.proofs.Common.{arith, ap, ◌∙◌, true≢false}
 use Rattle.std.proofs.Math.Path.{◌≡◌, refl, sym}
-use Rattle.std.specs.Prelude.{◌⊎◌, Bool, length, ltb, leb}
+use Rattle.std.specs.Prelude.{Bool, length, ltb, leb}
 use Rattle.std.proofs.Math.Bool.{true, false}
 use Rattle.std.specs.Bool.{beq}
 use mathlib.Core.List.{List, [], ◌∷◌}
 use borrow.Author.Tests.{lt-ltb, le-ltb, le-leb, lt-leb, ltb-true, leb-true}
-use Rattle.regions.specs.Table.{pick, Table, Good}
+use Rattle.regions.specs.Table.{pick, Table}
 use Rattle.desc.specs.Layout.{desc_addr}
-use Rattle.desc.specs.Desc.{has_next, is_write_only, is_indirect, desc_at, desc_agree, desc_apart}
+use Rattle.desc.specs.Desc.{has_next, is_write_only, is_indirect, desc_at}
 use Rattle.desc.specs.declared.Descriptor.{Descriptor}
 use Rattle.desc.specs.declared.Found.{Found}
 use Rattle.desc.specs.declared.Found.TheVariants.{Desc, NoDesc}

@@ -1,8 +1,8 @@
 -- SPDX-License-Identifier: Apache-2.0 AND BSD-3-Clause
 -- The worked values for chains (docs/QUEUE.md, section 7), for every memory that holds such descriptors in a table of 8: what next yields, over and
 -- over, before it says that there is none.
-use Rattle.std.specs.Prelude.{ℕ, ◌≡◌, refl, true, List, [], ◌∷◌, length}
-use Rattle.std.proofs.Common.{arith, sym, ap, ◌∙◌}
+use Rattle.std.specs.Prelude.{ℕ, ◌≡◌, true, List, [], ◌∷◌, length}
+use Rattle.std.proofs.Common.{arith, ◌∙◌}
 use Rattle.regions.specs.Table.{Table, Good}
 use Rattle.memory.specs.Access.{writable, after}
 use Rattle.desc.specs.Layout.{desc_addr}

@@ -1,9 +1,9 @@
 -- SPDX-License-Identifier: Apache-2.0 AND BSD-3-Clause
 -- The split descriptor (VIRTIO 1.2, 2.7.5) and the used element (2.7.8), in bytes and in guest memory.
-use Rattle.std.specs.Prelude.{ℕ, ◌+◌, ◌*◌, ◌/◌, ◌%◌, ◌^◌, ◌≤◌, ◌<◌, ◌≡◌, Bool, true, false, List, [], ◌∷◌, ◌++◌, length, take, drop, eqb}
-use Rattle.std.proofs.Common.{arith, sym, ◌∙◌, append_assoc}
+use Rattle.std.specs.Prelude.{ℕ, ◌/◌, ◌%◌, ◌^◌, ◌<◌, ◌≡◌, Bool, true, false, List, ◌++◌, length, eqb}
+use Rattle.std.proofs.Common.{arith, ◌∙◌, append_assoc}
 use Rattle.std.proofs.Math.Path.{refl, ap}
-use Rattle.wire.specs.Number.{number, bytes, Bytes, number-bytes, bytes-number, bytes-part}
+use Rattle.wire.specs.Number.{number, Bytes, number-bytes, bytes-part}
 use Rattle.wire.specs.Part.{Apart, part, part-add, part_all}
 use Rattle.regions.specs.Table.{pick, Table, Good}
 use Rattle.memory.specs.Access.{readable, writable, bytes_at, after, pair_bytes, field_bytes, read16_of, read16_is, Agree, read16_agree, after-length, bytes_apart, bytes_back, writable-readable}

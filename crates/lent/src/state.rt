@@ -35,6 +35,7 @@ pub fn larger_of(a: u64, b: u64) -> u64
     if a < b { b } else { a }
 }
 
+#[tactic(auto, using(crate::specs::State::fits_flags, crate::specs::State::fits_not))]
 fn fields_fit(state: &[u64]) -> bool
     requires { 10 ≤ length state.now }
     ensures { result ≡ fits state.now }

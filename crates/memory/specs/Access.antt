@@ -19,16 +19,16 @@
 --   after_agree                                agree again after equal writes
 --   after_unmapped    a byte at a place that the table does not map is never changed
 --   after_elsewhere   nor is one whose guest address lies outside the write       (Good t)
-use Rattle.std.specs.Prelude.{ℕ, zero, suc, ◌+◌, ◌-◌, ◌*◌, ◌≤◌, ◌<◌, ◌^◌, ◌≡◌, Bool, true, false, ◌⊎◌, List, [], ◌∷◌, ◌++◌, length, get_or, ltb}
-use Rattle.std.proofs.Common.{add-zero, ap, ◌∙◌, true≢false, inl, inr, take_all}
+use Rattle.std.specs.Prelude.{ℕ, zero, suc, ◌+◌, ◌≤◌, ◌<◌, ◌^◌, ◌≡◌, Bool, true, false, ◌⊎◌, List, [], ◌∷◌, ◌++◌, length, get_or, ltb}
+use Rattle.std.proofs.Common.{add-zero, ap, ◌∙◌, true≢false, inl, inr}
 use native.Mathlib.Omega.{arith}
 use Rattle.std.proofs.Math.Path.{refl, sym}
 use Rattle.std.proofs.lemmas.List.Edits.{sets}
 use Rattle.wire.specs.Number.{number, bytes}
-use Rattle.wire.specs.Part.{Apart, part, part-part, part-sets, sets-append}
+use Rattle.wire.specs.Part.{Apart, part, part-part, part-sets}
 use Rattle.regions.specs.Table.{pick, Table, Maps, InMemory, Good, good_one, Single, single_one, maps_room}
-use Rattle.regions.specs.Spots.{spots, length-spots, within, whole, covered, covered_is, covered_run, covered_all, all_covered, past_covered, covered_top, run, RunAt, Mapped, spots_mapped}
-use Rattle.memory.specs.Cells.{cell, fetch, store, store1, length-fetch, length-store, fetch_run, store_run, Off, AllOff, Distinct, store_off, fetch_off, fetch_back, store_agree}
+use Rattle.regions.specs.Spots.{spots, length-spots, whole, covered, covered_is, covered_run, covered_all, all_covered, past_covered, covered_top, RunAt, Mapped, spots_mapped}
+use Rattle.memory.specs.Cells.{fetch, store, length-fetch, length-store, fetch_run, store_run, Off, AllOff, Distinct, store_off, fetch_off, fetch_back, store_agree}
 use Rattle.regions.specs.declared.Place.{Place}
 use Rattle.regions.specs.declared.Place.TheVariants.{At, Nowhere}
 use Rattle.memory.specs.declared.Got2.{Got2}

@@ -1,7 +1,7 @@
 -- SPDX-License-Identifier: Apache-2.0 AND BSD-3-Clause
 -- Bytes at a list of places of the slice: one place, or none, for each byte. Nothing here knows of tables or addresses.
-use Rattle.std.specs.Prelude.{ℕ, zero, suc, ◌+◌, ◌≤◌, ◌<◌, ◌≡◌, refl, Bool, true, false, List, [], ◌∷◌, ◌++◌, length, get_or, set, take}
-use Rattle.std.proofs.Common.{arith, sym, ap, ◌∙◌, true≢false, add-one, length-set, drop-cons, take_all, take-suc, take-suc-set, length-take-le, get_or-set_same, get_or-set_other}
+use Rattle.std.specs.Prelude.{ℕ, zero, suc, ◌+◌, ◌≤◌, ◌<◌, ◌≡◌, refl, true, List, [], ◌∷◌, ◌++◌, length, get_or, set, take}
+use Rattle.std.proofs.Common.{arith, sym, ap, ◌∙◌, true≢false, add-one, length-set, drop-cons, take_all, take-suc-set, get_or-set_same, get_or-set_other}
 use Rattle.std.proofs.lemmas.List.Edits.{sets}
 use Rattle.wire.specs.Part.{part, part_all}
 use Rattle.regions.specs.Table.{Table, spot}

@@ -42,6 +42,7 @@ fn in_memory(regions: &[u64], size: usize, addr: u64, off: u32, n: u32) -> bool
     }
 }
 
+#[tactic(auto, using(regions::specs::Spots::none_covered, regions::specs::Spots::past_covered))]
 fn in_rows(regions: &[u64], size: usize, addr: u64, off: u32, n: u32) -> bool
     ensures { result ≡ covered regions.now size (addr + off) n }
 {

@@ -1,13 +1,12 @@
 -- SPDX-License-Identifier: Apache-2.0 AND BSD-3-Clause
 -- The places of an access: for each byte that of the first row that holds it. `stretch_of` and `spot` are shut here. What the rest
 -- goes by: `spots_mapped`, `length-spots`, and for the fast way `Seated`.
-use Rattle.std.specs.Prelude.{ℕ, zero, suc, ◌+◌, ◌-◌, ◌≤◌, ◌<◌, ◌^◌, ◌≡◌, refl, Bool, true, false, ◌⊎◌, List, [], ◌∷◌, ◌++◌, length, get_or}
-use Rattle.std.proofs.Common.{add-zero, eq-or-lt_of_le, add-one, arith, sym, ap, ◌∙◌, true≢false, inl, inr}
+use Rattle.std.specs.Prelude.{ℕ, zero, suc, ◌+◌, ◌-◌, ◌≤◌, ◌<◌, ◌^◌, ◌≡◌, refl, Bool, true, false, List, [], ◌∷◌, ◌++◌, length}
+use Rattle.std.proofs.Common.{add-zero, arith, sym, ap, ◌∙◌, true≢false}
 use Rattle.std.proofs.Math.Decide.{dec_le}
-use Rattle.regions.specs.Table.{pick, Table, Row, Holds, row_at, extent, extent-fits, fits-extent, first_of, place_of, spot, spot_is, stretch_r, stretch_r_in, stretch_r_out, stretch_in, stretch_of, stretch_all, stretch_row, stretch_maps, passed, passed_more, passed_all, left, Maps, InMemory, maps_spot, spot_maps, maps_room, maps_top, spot_top}
+use Rattle.regions.specs.Table.{Table, Row, Holds, row_at, extent, fits-extent, place_of, spot, spot_is, stretch_r_in, stretch_r_out, stretch_in, stretch_of, stretch_all, stretch_row, stretch_maps, passed, passed_more, passed_all, left, Maps, InMemory, maps_spot, spot_maps, maps_top, spot_top}
 use Rattle.regions.specs.declared.Place.{Place}
 use Rattle.regions.specs.declared.Place.TheVariants.{At, Nowhere}
-use Rattle.regions.specs.declared.Stretch as decl
 use Rattle.regions.specs.declared.Stretch.TheVariants.{Run, Nothing}
 use Rattle.regions.specs.declared.Side as side
 use Rattle.regions.specs.declared.Side.TheVariants.{All, Away, Split}

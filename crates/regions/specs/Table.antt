@@ -1,7 +1,7 @@
 -- SPDX-License-Identifier: Apache-2.0 AND BSD-3-Clause
 -- The region table: a flat list of numbers, three a row, of which at most eight rows count. Where a guest address lies, and which
 -- addresses are in memory at all. Only this crate knows what a table is made of.
-use Rattle.std.specs.Prelude.{ℕ, zero, suc, ◌+◌, ◌-◌, ◌*◌, ◌≤◌, ◌<◌, ◌^◌, min, Bool, ◌⊎◌, length, get_or, drop, ltb, leb}
+use Rattle.std.specs.Prelude.{ℕ, zero, suc, ◌+◌, ◌-◌, ◌≤◌, ◌<◌, ◌^◌, min, Bool, ◌⊎◌, length, get_or, drop, ltb, leb}
 use Rattle.std.proofs.Common.{zero-le, add-one, sym, ap, ◌∙◌, true≢false, inl, inr, length-drop, drop-cons}
 use Rattle.std.proofs.Math.Numerals.{add-two, add-three}
 use native.Mathlib.Omega.{arith}

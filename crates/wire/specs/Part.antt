@@ -1,8 +1,8 @@
 -- SPDX-License-Identifier: Apache-2.0 AND BSD-3-Clause
 -- A part of a list, and `sets l i vs` of `lib.Seq`: the list l with the elements vs in the place of those from i on. Its length is
 -- `length-sets` there. A part of it that lies inside what was written, before it or behind it; two writes apart from each other.
-use Rattle.std.specs.Prelude.{ℕ, zero, suc, ◌+◌, ◌≤◌, ◌<◌, ◌≡◌, refl, ◌⊎◌, List, [], ◌∷◌, ◌++◌, length, get_or, set, take, drop}
-use Rattle.std.proofs.Common.{add-zero, add-suc, suc-add, add_assoc, arith, sym, ap, ◌∙◌, inl, inr, append_assoc, length-set, length-take, length-drop, get_or-set_same, get_or-set_other, get_or-take, get_or-drop, ext_get_or, take-add, take_all, drop-drop, drop-cons, take_at, drop_at, length-take-le}
+use Rattle.std.specs.Prelude.{ℕ, suc, ◌+◌, ◌≤◌, ◌<◌, ◌≡◌, refl, ◌⊎◌, List, [], ◌∷◌, ◌++◌, length, get_or, set, take, drop}
+use Rattle.std.proofs.Common.{add-zero, add-suc, suc-add, add_assoc, arith, sym, ap, ◌∙◌, inl, inr, append_assoc, length-drop, get_or-set_other, get_or-take, get_or-drop, ext_get_or, take-add, take_all, drop-drop, drop-cons, take_at, drop_at, length-take-le}
 use Rattle.std.proofs.lemmas.List.Edits.{sets, sets-eq}
 use Rattle.std.proofs.Math.Seq.{length-sets}
 use Rattle.std.proofs.lemmas.List.{set_comm}

@@ -1,5 +1,5 @@
 -- SPDX-License-Identifier: Apache-2.0 AND BSD-3-Clause
-use Rattle.std.proofs.Common.{◌≡◌, ◌<◌, length, arith, refl, rules}
+use Rattle.std.proofs.Common.{◌<◌, length, arith, refl, rules}
 use Rattle.regions.specs.Spots.{spots_none, covered_top}
 use Rattle.memory.specs.Cells.{fetched_all, fetched_next}
 use Rattle.memory.proofs.gather.Goals as goal

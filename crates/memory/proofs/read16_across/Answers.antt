@@ -1,5 +1,5 @@
 -- SPDX-License-Identifier: Apache-2.0 AND BSD-3-Clause
-use Rattle.std.proofs.Common.{◌∙◌, ◌+◌, ◌<◌, ◌^◌, arith, refl, rules, sym}
+use Rattle.std.proofs.Common.{◌∙◌, ◌+◌, ◌<◌, ◌^◌, arith, refl}
 use Rattle.memory.specs.Access.{read16_refused, read16_slow, readable_top, readable-covered}
 use Rattle.memory.proofs.read16_across.Goals as goal
 

@@ -1,5 +1,5 @@
 -- SPDX-License-Identifier: Apache-2.0 AND BSD-3-Clause
-use Rattle.std.proofs.Common.{◌∙◌, ap, ◌+◌, ◌<◌, ◌^◌, arith, refl, rules, sym}
+use Rattle.std.proofs.Common.{◌∙◌, ap, ◌+◌, ◌<◌, ◌^◌, arith, refl}
 use Rattle.memory.specs.declared.Got2.TheVariants.{Value}
 use Rattle.memory.specs.Access.{read2_refused, read2_slow, readable_top, readable-covered}
 use Rattle.memory.proofs.read2_across.Goals as goal

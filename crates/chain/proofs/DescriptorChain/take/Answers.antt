@@ -1,5 +1,5 @@
 -- SPDX-License-Identifier: Apache-2.0 AND BSD-3-Clause
-use Rattle.std.proofs.Common.{arith, refl, sym}
+use Rattle.std.proofs.Common.{arith, sym}
 use Rattle.chain.specs.Walk.{taken_indirect, taken_last, taken_on_lem, taken_past}
 use Rattle.chain.proofs.DescriptorChain.take.Goals as goal
 use Rattle.chain.proofs.DescriptorChain.take.Goals.{then-has_next, else-has_next}

@@ -1,5 +1,5 @@
 -- SPDX-License-Identifier: Apache-2.0 AND BSD-3-Clause
-use Rattle.std.proofs.Common.{◌<◌, arith, rules}
+use Rattle.std.proofs.Common.{arith}
 use Rattle.queue.specs.Size.{place_mask}
 use Rattle.queue.proofs.ring.ring_place.Goals as goal
 
