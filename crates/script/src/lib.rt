@@ -6,5 +6,5 @@
 pub mod commands;
 pub mod crc;
 pub mod numbers;
-pub mod scan;
+mod scan;
 pub mod words;
