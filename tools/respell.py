@@ -2,7 +2,7 @@
 # SPDX-License-Identifier: Apache-2.0 AND BSD-3-Clause
 """Brings the repository's own definitions and lemmas to the kit's spelling: words in snake case, a dash only between two names.
 
-usage: tools/respell.py [FOLDER]    once, right after /opt/rattle/port/port.py, at the top of the repository (or in FOLDER)
+usage: tools/respell.py [FOLDER]    once, right after the kit's port/port.py, at the top of the repository (or in FOLDER)
 
 Each name of the table is turned, as a whole word, in crates/*/src, specs, proofs, must-fail and wrong. Names of functions, fields and exports of the
 source keep their spelling, and so do the names that Rattle makes. It stops, and changes nothing, where two names of one file would fall together.
