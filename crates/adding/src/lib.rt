@@ -4,15 +4,14 @@
 
 ghost use Rattle.std.specs.Prelude.{◌≡◌, ◌+◌, ◌≤◌, [], ◌∷◌, length};
 ghost use Rattle.std.proofs.lemmas.List.Edits.{sets};
-ghost use Rattle.regions.specs.Table.{row, rows};
+ghost use Rattle.regions.specs.Table.{rows};
 ghost use Rattle.adding.specs.Grow.{shares_r, shares_in, free_of, fault_of, Grown};
 
-use regions::Place;
+use regions::{REGION_WORDS, Region, Rows};
 
 // Why a region was not added, in the order of the tests.
-#[derive(Clone, Copy)]
-pub enum Adding {
-    Added,
+#[derive(Clone, Copy, Debug, PartialEq, Eq)]
+pub enum AddError {
     // eight regions are there, or the table has no room for one more
     Full,
     // its length is 0
@@ -25,116 +24,71 @@ pub enum Adding {
     Overlap,
 }
 
-fn row_shares(rbase: u64, rlen: u64, base: u64, len: u64) -> bool
-    ensures { result ≡ shares_r (row rbase rlen 0) base len }
+// base and len and no Region, as shares_r has it: what is shared are guest addresses, wherever they lie in the slice.
+fn shares(row: Region, base: u64, len: u64) -> bool
+    ensures { result ≡ shares_r row base len }
 {
-    if len == 0 {
-        return false;
+    if base < row.base {
+        row.len != 0 && row.base - base < len
+    } else {
+        len != 0 && base - row.base < row.len
     }
-    if rlen == 0 {
-        return false;
-    }
-    if base < rbase {
-        if rbase - base < len {
-            return true;
-        }
-        return false;
-    }
-    if base - rbase < rlen {
-        return true;
-    }
-    false
 }
 
 // Whether a row shares one of the len guest addresses from base on.
 fn shares_any(regions: &[u64], base: u64, len: u64) -> bool
     ensures { result ≡ shares_in (rows 8 regions.now) base len }
 {
-    let mut at: usize = 0;
-    let mut rows: usize = 8;
-    while 0 < rows {
-        if regions.len() - at < 3 {
-            return false;
-        }
-        if row_shares(regions[at], regions[at + 1], base, len) {
-            return true;
-        }
-        at += 3;
-        rows -= 1;
-    }
-    false
+    Rows::of(regions).any(|row| shares(row, base, len))
 }
 
 // The word at which the first free row begins.
-fn free_row(regions: &[u64]) -> Place
+fn free_row(regions: &[u64]) -> Option<usize>
     ensures { result ≡ free_of regions.now }
 {
-    let mut at: usize = 0;
-    let mut rows: usize = 8;
-    while 0 < rows {
-        if regions.len() - at < 3 {
-            return Place::Nowhere;
-        }
-        if regions[at + 1] == 0 {
-            return Place::At(at);
-        }
-        at += 3;
-        rows -= 1;
-    }
-    Place::Nowhere
+    let k = Rows::of(regions).position(|row| row.len == 0)?;
+    Some(REGION_WORDS * k)
 }
 
-fn region_fault(regions: &[u64], size: usize, base: u64, len: u64, offset: u64) -> Adding
-    ensures { result ≡ fault_of regions.now size base len offset }
+// Refuses a region that may not be added to the table.
+#[tactic(auto, unfolding(crate::specs::Grow::fault_of))]
+fn try_region(regions: &[u64], size: usize, region: Region) -> Result<(), AddError>
+    ensures { result ≡ fault_of regions.now size region.base region.len region.offset }
 {
-    if len == 0 {
-        return Adding::Empty;
+    if region.len == 0 {
+        return Err(AddError::Empty);
     }
-    if u64::MAX - base < len - 1 {
-        return Adding::PastTop;
+    if region.base.checked_add(region.len - 1).is_none() {
+        return Err(AddError::PastTop);
     }
-    let all = size as u64;
-    if all < len {
-        return Adding::PastSlice;
+    let end = region.offset.checked_add(region.len);
+    if !end.is_some_and(|end| end <= size as u64) {
+        return Err(AddError::PastSlice);
     }
-    if all - len < offset {
-        return Adding::PastSlice;
+    if shares_any(regions, region.base, region.len) {
+        return Err(AddError::Overlap);
     }
-    if shares_any(regions, base, len) {
-        return Adding::Overlap;
-    }
-    Adding::Added
+    Ok(())
 }
 
-fn put_row(regions: &mut [u64], at: usize, base: u64, len: u64, offset: u64)
+// Word by word: an array of three to copy from would name them all as well.
+fn put_row(regions: &mut [u64], at: usize, row: Region)
     requires { at + 3 ≤ length regions.old }
-    ensures { regions.new ≡ sets regions.old at (base ∷ len ∷ offset ∷ []) }
+    ensures { regions.new ≡ sets regions.old at (row.base ∷ row.len ∷ row.offset ∷ []) }
 {
-    regions[at] = base;
-    regions[at + 1] = len;
-    regions[at + 2] = offset;
+    regions[at] = row.base;
+    regions[at + 1] = row.len;
+    regions[at + 2] = row.offset;
 }
 
-// Adds a region to the table: the guest addresses from base on, len of them, lie in a slice of size bytes from offset on. It goes
-// into the first row of length 0; a refusal changes nothing.
-pub fn add_region(regions: &mut [u64], size: usize, base: u64, len: u64, offset: u64) -> Adding
-    ensures { Grown regions.old size base len offset result regions.new }
+// Adds a region to the table of a slice of size bytes. It goes into the first row of length 0; a refusal changes nothing.
+pub fn add_region(regions: &mut [u64], size: usize, region: Region) -> Result<(), AddError>
+    ensures { Grown regions.old size region.base region.len region.offset result regions.new }
 {
-    match free_row(regions) {
-        Place::At(at) => {
-            let fault = region_fault(regions, size, base, len, offset);
-            match fault {
-                Adding::Added => {
-                    put_row(regions, at, base, len, offset);
-                    Adding::Added
-                }
-                Adding::Full => Adding::Full,
-                Adding::Empty => Adding::Empty,
-                Adding::PastTop => Adding::PastTop,
-                Adding::PastSlice => Adding::PastSlice,
-                Adding::Overlap => Adding::Overlap,
-            }
-        }
-        Place::Nowhere => Adding::Full,
-    }
+    let Some(at) = free_row(regions) else {
+        return Err(AddError::Full);
+    };
+    try_region(regions, size, region)?;
+    put_row(regions, at, region);
+    Ok(())
 }

@@ -2,14 +2,8 @@
 // The rounds: the driver comes once in 64, and adds 64 entries; the device takes a chain, walks it, puts it and asks. A call that is
 // refused adds nothing.
 use crate::input::Numbers;
-use chain::{DescriptorChain, Step};
-use queue::{Answered, Configured, Half, Placed, Queue, Taken};
-
-#[derive(Clone, Copy)]
-pub enum Start {
-    Ready(Queue),
-    Refused,
-}
+use chain::DescriptorChain;
+use queue::Queue;
 
 // The queue and what was added up so far.
 #[derive(Clone, Copy)]
@@ -25,112 +19,73 @@ struct Walked {
     last: u32,
 }
 
-fn half(addr: u64) -> Half {
-    Half::Given((addr % 4294967296) as u32)
-}
-
-fn changed(q: Queue, c: Configured) -> Queue {
-    match c {
-        Configured::Changed(new) => new,
-        Configured::NotChanged(_) => q,
-    }
-}
-
 fn with_areas(q: Queue, n: Numbers) -> Queue {
-    let a = changed(q, q.set_desc_table_address(half(n.desc), Half::Kept));
-    let b = changed(a, a.set_avail_ring_address(half(n.avail), Half::Kept));
-    changed(b, b.set_used_ring_address(half(n.used), Half::Kept))
+    let a = q.set_desc_table_address(Some(n.desc), None).unwrap_or(q);
+    let b = a.set_avail_ring_address(Some(n.avail), None).unwrap_or(a);
+    b.set_used_ring_address(Some(n.used), None).unwrap_or(b)
 }
 
-pub fn configure(n: Numbers) -> Start {
-    match Queue::new(n.size) {
-        Configured::Changed(q) => {
-            let set = with_areas(q, n);
-            Start::Ready(set.set_event_idx(n.event).set_ready(true))
-        }
-        Configured::NotChanged(_) => Start::Refused,
-    }
+pub fn configure(n: Numbers) -> Option<Queue> {
+    let q = Queue::new(n.size).ok()?;
+    Some(with_areas(q, n).set_event_idx(n.event).set_ready(true))
 }
 
 // The driver: used_event, then idx, which it answers.
 fn drive(avail: u64, size: u16, idx: u16, table: &[u64], mem: &mut [u8]) -> u16 {
-    let event = std::num::wrapping_add_u16(idx, 31);
-    writing::write2(table, mem, avail, 4 + 2 * (size as u32), event);
-    let next = std::num::wrapping_add_u16(idx, 64);
-    writing::write2(table, mem, avail, 2, next);
+    let event = idx.wrapping_add(31);
+    writing::write(table, mem, avail, 4 + 2 * u32::from(size), event);
+    let next = idx.wrapping_add(64);
+    writing::write(table, mem, avail, 2, next);
     next
 }
 
-// The driver comes before the rounds 0, 64, 128 and so on.
-fn driven(i: u64, n: Numbers, idx: u16, table: &[u64], mem: &mut [u8]) -> u16 {
-    if i % 64 == 0 {
-        return drive(n.avail, n.size, idx, table, mem);
-    }
-    idx
-}
-
 // Walks a chain to its end.
+#[tactic(auto, using(chain::specs::Walk::step_falls))]
 fn walk(chain: DescriptorChain, sum: u64, table: &[u64], mem: &[u8]) -> Walked {
     let mut c = chain;
-    let mut total = sum;
-    let mut last: u32 = 0;
-    loop {
-        match c.next(table, mem) {
-            Step::Next(d, rest) => {
-                total = std::num::wrapping_add_u64(total, d.addr);
-                total = std::num::wrapping_add_u64(total, d.flags as u64);
-                last = d.len;
-                c = rest;
-            }
-            Step::End => {
-                return Walked { sum: total, last };
-            }
-        }
+    let mut walked = Walked { sum, last: 0 };
+    while let Some((d, rest)) = c.next(table, mem) {
+        walked = Walked {
+            sum: walked
+                .sum
+                .wrapping_add(d.addr)
+                .wrapping_add(u64::from(d.flags)),
+            last: d.len,
+        };
+        c = rest;
     }
+    walked
 }
 
-// What a yes to the question is worth: the round's number.
-fn worth(needed: bool, number: u64) -> u64 {
-    if needed { number } else { 0 }
-}
-
-fn placed(q: Queue, head: u16, last: u32, table: &[u64], mem: &mut [u8]) -> Queue {
-    match q.add_used(table, mem, head, last) {
-        Placed::Added(new) => new,
-        Placed::NotAdded(_) => q,
-    }
-}
-
+// A yes to the question is worth the round's number.
 fn asked(q: Queue, sum: u64, number: u64, table: &[u64], mem: &[u8]) -> Sums {
-    match q.needs_notification(table, mem) {
-        Answered::Needed(needed, new) => Sums {
-            queue: new,
-            sum: std::num::wrapping_add_u64(sum, worth(needed, number)),
-        },
-        Answered::NotAnswered(_) => Sums { queue: q, sum },
+    let (needed, queue) = q.needs_notification(table, mem).unwrap_or((false, q));
+    let worth = if needed { number } else { 0 };
+    Sums {
+        queue,
+        sum: sum.wrapping_add(worth),
     }
 }
 
 fn round(s: Sums, number: u64, table: &[u64], mem: &mut [u8]) -> Sums {
-    match s.queue.pop_descriptor_chain(table, mem) {
-        Taken::Head(head, q) => {
-            let chain = DescriptorChain::new(q.desc_table, q.size, head);
-            let w = walk(chain, s.sum, table, mem);
-            let put = placed(q, head, w.last, table, mem);
-            asked(put, w.sum, number, table, mem)
-        }
-        Taken::NoHead => s,
-    }
+    let Some((head, q)) = s.queue.pop_descriptor_chain(table, mem) else {
+        return s;
+    };
+    let chain = DescriptorChain::new(q.desc_table, q.size, head);
+    let w = walk(chain, s.sum, table, mem);
+    let put = q.add_used(table, mem, head, w.last).unwrap_or(q);
+    asked(put, w.sum, number, table, mem)
 }
 
+// The driver comes before the rounds 0, 64, 128 and so on.
 pub fn all(n: Numbers, q: Queue, table: &[u64], mem: &mut [u8]) -> u64 {
     let mut s = Sums { queue: q, sum: 0 };
     let mut idx: u16 = 0;
-    let mut i: u64 = 0;
-    while i < n.rounds {
-        idx = driven(i, n, idx, table, mem);
-        i += 1;
-        s = round(s, i, table, mem);
+    for i in 0..n.rounds {
+        if i % 64 == 0 {
+            idx = drive(u64::from(n.avail), n.size, idx, table, mem);
+        }
+        s = round(s, i + 1, table, mem);
     }
     s.sum
 }

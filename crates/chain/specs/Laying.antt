@@ -4,9 +4,13 @@ use Prim.Native.Nat.{ℕ, zero, suc, ◌+◌, ◌-◌, ◌*◌, ◌/◌, ◌%◌
 use Rattle.std.proofs.Math.Nat.{sub-zero}
 use Rattle.std.proofs.Common.{add-zero, add-one, ap, ◌∙◌, inl, inr, true≢false}
 use native.Mathlib.Omega.{arith}
-use Rattle.std.specs.Prelude.{◌≡◌, Bool, true, false, not, List, length, get_or, ltb, leb, eqb}
+use Rattle.std.specs.Prelude.{◌≡◌, Bool, true, false, not, ◌&&◌, ◌||◌, Option, Some, None, is_some, SomeIff, Ok, Err, List, [], ◌∷◌, length, get_or, take, drop, sum, ltb, leb, eqb}
 use Rattle.std.proofs.Math.Path.{refl, sym}
 use Rattle.std.proofs.Math.ListN.{get_or-eq_default}
+use Rattle.std.proofs.Math.Seq.{drop-cons}
+use Rattle.std.proofs.lemmas.List.{length-take, get_or-take, drop_all}
+use Rattle.std.proofs.lemmas.List.Sums.{sum_by-cons}
+use Rattle.std.specs.List.{list_all, list_any}
 use borrow.Author.Tests.{lt-ltb, le-ltb, le-leb, lt-leb, eq-eqb, ne_eqb, ltb-true, ltb-false, leb-true, eqb-true, eqb-false, not-true, not-false}
 use Rattle.wire.specs.Part.{Apart}
 use Rattle.regions.specs.Table.{pick, Table, Good}
@@ -14,13 +18,12 @@ use Rattle.memory.specs.Access.{writable, after, after-length, Wrote}
 use Rattle.desc.specs.Layout.{desc_addr}
 use Rattle.desc.specs.Desc.{descriptor, desc_bytes, has_next, is_indirect, desc_at, FitsDesc, desc_apart, desc_back}
 use Rattle.desc.specs.declared.Descriptor.{Descriptor}
-use Rattle.desc.specs.declared.Found.TheVariants.{Desc}
 use Rattle.chain.specs.Sequence.{entry, Chain, last, more, sum_max, total, AllDirect, Lawful}
 use Rattle.chain.specs.Walk.{entry_in}
 use Rattle.chain.specs.Right.{lawful_yields, lawful_filtered}
-use Rattle.chain.specs.Links.{Listed, link_flags, link, links_from, links, stored, every, counted, below, differs, fresh, direct, can_store, lay_of, is_done, LaidDown}
-use Rattle.chain.specs.declared.lay.Laid.{Laid}
-use Rattle.chain.specs.declared.lay.Laid.TheVariants.{Done, BadCount, BadPlace, SamePlace, Indirect, TooLong, Unmapped}
+use Rattle.chain.specs.Links.{Listed, Laid, link_flags, link, links_from, links, stored, every, counted, below, differs, fresh, direct, can_store, lay_of, is_done, LaidDown}
+use Rattle.chain.specs.declared.lay.LayError.{LayError}
+use Rattle.chain.specs.declared.lay.LayError.TheVariants.{BadCount, BadPlace, SamePlace, Indirect, TooLong, Unmapped}
 
 -- ---- what the functions below lay_chain need and find
 -- as many of each
@@ -29,44 +32,15 @@ pub record SameLength (x : Listed) : Type 0 where
   pub lens : length x.lens ≡ length x.places
   pub flags : length x.flags ≡ length x.places
 
--- k is a place of each list
-pub record In (k : ℕ) (x : Listed) : Type 0 where
-  pub places : k < length x.places
-  pub addrs : k < length x.addrs
-  pub lens : k < length x.lens
-  pub flags : k < length x.flags
-
-unfoldable pub sums : List ℕ → ℕ → ℕ → ℕ
-sums ls zero k = 0
-sums ls (suc n) k = get_or ls k 0 + sums ls n (suc k)
-
-abbrev pub sum_fits : ℕ → Bool
-sum_fits s = leb s sum_max
-
 left-suc : (n k : ℕ) → k < n → n - k ≡ suc (n - (k + 1))
 left-suc n k h = omega arith
 
+pick_and : (b c : Bool) → pick b c false ≡ (b && c)
+pick_and true c = refl
+pick_and false c = refl
+
 -- ---- every
 module _ (p : ℕ → Bool) where
-  every-step : (n k : ℕ) → k < n → every p (n - k) k ≡ pick (p k) (every p (n - (k + 1)) (k + 1)) false
-  unfolding every
-  every-step n k h = rw (left-suc n k h, add-one)
-
-  pub every_begin : (n : ℕ) → every p (n - 0) 0 ≡ every p n 0
-  every_begin n = rw sub-zero
-
-  -- for a loop that is at k
-  module _ (n k : ℕ) (inv : every p (n - k) k ≡ every p n 0) where
-    pub every_on : k < n → p k ≡ true → every p (n - (k + 1)) (k + 1) ≡ every p n 0
-    every_on h e = sym (every-step n k h ∙ rw e) ∙ inv
-
-    pub every_no : k < n → p k ≡ false → false ≡ every p n 0
-    every_no h e = sym (every-step n k h ∙ rw e) ∙ inv
-
-    pub every_end : n ≤ k → true ≡ every p n 0
-    unfolding every
-    every_end h = let z : n - k ≡ 0 = omega arith in sym (rw z) ∙ inv
-
   both : (b c : Bool) → pick b c false ≡ true → (b ≡ true) × (c ≡ true)
   both true c h = (refl, h)
   both false c h = absurd (true≢false (sym h))
@@ -81,6 +55,57 @@ module _ (p : ℕ → Bool) where
   every_all zero k e i h l = absurd (omega arith)
   every_all (suc n) k e i h l =
       let w = both (p k) (every p n (suc k)) e in every' n k i (ltb k i) refl h w.0 (λ s. every_all n (suc k) w.1 i s (omega arith))
+
+  yes' : (n k : ℕ) → ((i : ℕ) → k ≤ i → i < k + n → p i ≡ true) → true ≡ every p n k
+  unfolding every
+  yes' zero k h = refl
+  yes' (suc n) k h = rw (h k (omega arith) (omega arith)) (yes' n (suc k) (λ i g l. h i (omega arith) (omega arith)))
+
+  no' : (n i : ℕ) (b : Bool) → every p n 0 ≡ b → i < n → p i ≡ false → false ≡ every p n 0
+  no' n i true e l h = absurd (true≢false (sym (every_all n 0 e i (omega arith) (omega arith)) ∙ h))
+  no' n i false e l h = sym e
+
+  on' : (k i : ℕ) (b : Bool) → ltb i k ≡ b → i < k + 1 → ((j : ℕ) → j < k → p j ≡ true) → p k ≡ true → p i ≡ true
+  on' k i true e l f h = f i (ltb-true _ _ e)
+  on' k i false e l f h = let z : i ≡ k = omega (arith, ltb-false i k e) in rw z h
+
+  -- for a loop over the places: p is true of one more; it found one that p is false of, or none
+  pub every_on : (k : ℕ) → ((j : ℕ) → j < k → p j ≡ true) → p k ≡ true → (i : ℕ) → i < k + 1 → p i ≡ true
+  every_on k f h i l = on' k i (ltb i k) refl l f h
+
+  pub every_no : (n i : ℕ) → i < n → p i ≡ false → false ≡ every p n 0
+  every_no n i l h = no' n i (every p n 0) refl l h
+
+  pub every_yes : (n : ℕ) → ((i : ℕ) → i < n → p i ≡ true) → true ≡ every p n 0
+  every_yes n h = yes' n 0 (λ i g l. h i (omega arith))
+
+  -- for a loop that counts down what is left
+  every-step : (n k : ℕ) → k < n → every p (n - k) k ≡ pick (p k) (every p (n - (k + 1)) (k + 1)) false
+  unfolding every
+  every-step n k h = rw (left-suc n k h, add-one)
+
+  pub every_begin : (n : ℕ) → every p (n - 0) 0 ≡ every p n 0
+  every_begin n = rw sub-zero
+
+  module _ (n k : ℕ) (inv : every p (n - k) k ≡ every p n 0) where
+    pub every_left : k < n → p k ≡ true → every p (n - (k + 1)) (k + 1) ≡ every p n 0
+    every_left h e = sym (every-step n k h ∙ rw e) ∙ inv
+
+    pub every_end : n ≤ k → true ≡ every p n 0
+    unfolding every
+    every_end h = let z : n - k ≡ 0 = omega arith in sym (rw z) ∙ inv
+
+  -- of each number of a list
+  list' : (f : ℕ → Bool) (xs : List ℕ) (k : ℕ) → ((i : ℕ) → i < length xs → p (k + i) ≡ f (get_or xs i 0)) → every p (length xs) k ≡ list_all f xs
+  unfolding every
+  list' f [] k h = refl
+  list' f (x ∷ xs) k h =
+      let e : p k ≡ f x = rw add-zero at (h 0 (omega arith)) in
+      let r = list' f xs (suc k) (λ i l. let z : suc k + i ≡ k + suc i = omega arith in rw z (h (suc i) (omega arith))) in
+      rw (e, r) (pick_and (f x) (list_all f xs))
+
+  pub every_list : (f : ℕ → Bool) (xs : List ℕ) → ((i : ℕ) → i < length xs → p i ≡ f (get_or xs i 0)) → every p (length xs) 0 ≡ list_all f xs
+  every_list f xs h = list' f xs 0 (λ i l. let z : 0 + i ≡ i = omega arith in rw z (h i l))
 
 -- ---- the tests at one place
 module _ (ps : List ℕ) (k : ℕ) where
@@ -126,6 +151,31 @@ module _ (ps : List ℕ) (k : ℕ) where
   can_true : (t : Table) (size table : ℕ) → can_store t size table ps k ≡ true → writable t size (desc_addr table (get_or ps k 0)) 16 ≡ true
   unfolding can_store
   can_true t size table h = h
+
+-- and at every place, as a list's test says it
+pub all_below-every : (q : ℕ) (ps : List ℕ) → list_all (λ p. ltb p q) ps ≡ every (below q ps) (length ps) 0
+unfolding below
+all_below-every q ps = sym (every_list (below q ps) (λ p. ltb p q) ps (λ i l. refl))
+
+pub can_store-every : (t : Table) (size table : ℕ) (ps : List ℕ) → list_all (λ p. writable t size (desc_addr table p) 16) ps ≡ every (can_store t size table ps) (length ps) 0
+unfolding can_store
+can_store-every t size table ps = sym (every_list (can_store t size table ps) (λ p. writable t size (desc_addr table p) 16) ps (λ i l. refl))
+
+not_any : (f : ℕ → Bool) (xs : List ℕ) → list_all (λ x. not (f x)) xs ≡ not (list_any f xs)
+not_any f [] = refl
+not_any f (x ∷ xs) = any' (f x) (not_any f xs)
+  where
+    any' : (b : Bool) → list_all (λ x. not (f x)) xs ≡ not (list_any f xs) → (not b && list_all (λ x. not (f x)) xs) ≡ not (b || list_any f xs)
+    any' true h = refl
+    any' false h = h
+
+-- a place is none of those before if these don't contain it
+pub fresh_contains : (ps : List ℕ) (k : ℕ) → k ≤ length ps → fresh ps k ≡ not (list_any (λ p. eqb p (get_or ps k 0)) (take k ps))
+unfolding fresh differs
+fresh_contains ps k h =
+    let n : length (take k ps) ≡ k = omega (arith, length-take k ps) in
+    let e = every_list (differs ps k) (λ p. not (eqb p (get_or ps k 0))) (take k ps) (λ i l. rw (get_or-take k ps i 0 (omega arith))) in
+    rw n at e ∙ not_any (λ p. eqb p (get_or ps k 0)) (take k ps)
 
 module _ (x : Listed) (k : ℕ) where
   module _ (d : Descriptor) (r : Bool) (e : d ≡ link x k) (f : r ≡ is_indirect d) where
@@ -180,31 +230,21 @@ flags_more b f e = rw e
 pub flags_last : (b : Bool) (f : ℕ) → b ≡ false → f / 2 * 2 ≡ link_flags b f
 flags_last b f e = rw (e, add-zero)
 
--- ---- sums
-module _ (ls : List ℕ) where
-  sums-step : (n k : ℕ) → k < n → sums ls (n - k) k ≡ get_or ls k 0 + sums ls (n - (k + 1)) (k + 1)
-  unfolding sums
-  sums-step n k h = rw (left-suc n k h, add-one)
+-- ---- the sum of lengths
+total-sum : (x : Listed) (n k : ℕ) → k + n ≡ length x.lens → total (links_from x n k) ≡ sum (drop k x.lens)
+unfolding links_from
+total-sum x zero k h = rw (drop_all k x.lens (omega arith))
+total-sum x (suc n) k h =
+    rw (link_len x k, drop-cons x.lens k 0 (omega arith), total-sum x n (suc k) (omega arith))
+    (sym (sum_by-cons (λ n. n) (get_or x.lens k 0) (drop (suc k) x.lens)))
 
-  pub sums_begin : (n : ℕ) → 0 + sums ls (n - 0) 0 ≡ sums ls n 0
-  sums_begin n = rw sub-zero (omega arith)
+module _ (x : Listed) (s : SameLength x) where
+  sum-links : total (links x) ≡ sum x.lens
+  sum-links = total-sum x (length x.places) 0 (omega (arith, s.lens))
 
-  -- for a loop that is at k, with the sum s of those before
-  module _ (n k s : ℕ) (inv : s + sums ls (n - k) k ≡ sums ls n 0) where
-    pub sums_on : k < n → s + get_or ls k 0 + sums ls (n - (k + 1)) (k + 1) ≡ sums ls n 0
-    sums_on h = omega (arith, sums-step n k h)
-
-    pub sums_past : k < n → sum_max < s + get_or ls k 0 → false ≡ sum_fits (sums ls n 0)
-    sums_past h p = let z : sum_max < sums ls n 0 = omega (arith, sums-step n k h) in sym (lt-leb _ _ z)
-
-    pub sums_end : n ≤ k → s ≤ sum_max → true ≡ sum_fits (sums ls n 0)
-    unfolding sums
-    sums_end h p = let y : n - k ≡ 0 = omega arith in let w : s + 0 ≡ sums ls n 0 = rw y at inv in sym (le-leb (sums ls n 0) sum_max (omega arith))
-
-total-sums : (x : Listed) (n k : ℕ) → total (links_from x n k) ≡ sums x.lens n k
-unfolding links_from sums
-total-sums x zero k = refl
-total-sums x (suc n) k = rw (link_len x k, total-sums x n (suc k))
+  pub sum_is : (o : Option ℕ) → SomeIff o (sum x.lens < 2 ^ 32) (sum x.lens) → is_some o ≡ leb (total (links x)) sum_max
+  sum_is (Some n) h = rw sum-links (sym (le-leb (sum x.lens) sum_max (omega (arith, h.0))))
+  sum_is None h = rw sum-links (sym (lt-leb (sum x.lens) sum_max (omega (arith, h))))
 
 -- ---- counted
 module _ (q : ℕ) (x : Listed) where
@@ -251,9 +291,18 @@ counted' q x true true false d e h i j k l m = absurd (true≢false (sym m))
 counted' q x true false c d e h i j k l m = absurd (true≢false (sym m))
 counted' q x false b c d e h i j k l m = absurd (true≢false (sym m))
 
-pub counted-true : (q : ℕ) (x : Listed) → counted q x ≡ true → Counted q x
-unfolding counted
-counted-true q x h = counted' q x _ _ _ _ _ refl refl refl refl refl h
+module _ (q : ℕ) (x : Listed) where
+  pub counted-true : counted q x ≡ true → Counted q x
+  unfolding counted
+  counted-true h = counted' q x _ _ _ _ _ refl refl refl refl refl h
+
+  counted-no : (b : Bool) → counted q x ≡ b → (SameLength x → ⊥) → counted q x ≡ false
+  counted-no true e h = absurd (h (counted-true e).same)
+  counted-no false e h = e
+
+  pub lay_uneven : (t : Table) (size table : ℕ) → (SameLength x → ⊥) → lay_of t size table q x ≡ Err BadCount
+  unfolding lay_of
+  lay_uneven t size table h = rw (counted-no (counted q x) refl h)
 
 -- ---- stored
 module _ (t : Table) (table : ℕ) (x : Listed) where
@@ -276,10 +325,6 @@ module _ (t : Table) (table : ℕ) (x : Listed) where
 
 pub wrote_length : (t : Table) (m : List ℕ) (a : ℕ) (bs : List ℕ) (r : Bool) (m' : List ℕ) → Wrote t m a bs r m' → length m' ≡ length m
 wrote_length t m a bs r m' w = ap length w.mem ∙ after-length t m a bs
-
--- ---- in-laws: an index below the count is in every list
-pub same_in : (x : Listed) (k : ℕ) → SameLength x → k < length x.places → In k x
-same_in x k s h = record { places = h; addrs = omega (arith, s.addrs); lens = omega (arith, s.lens); flags = omega (arith, s.flags) }
 
 -- ---- the round trip
 far' : (table i j : ℕ) (b : Bool) → ltb i j ≡ b → (i ≡ j → ⊥) → Apart (desc_addr table i) 16 (desc_addr table j) 16
@@ -318,8 +363,8 @@ module _ (t : Table) (g : Good t) (table : ℕ) (x : Listed) where
   module _ (fits : (i : ℕ) → FitsDesc (link x i)) (one : (i j : ℕ) → j < i → i < length x.places → get_or x.places j 0 ≡ get_or x.places i 0 → ⊥) (size : ℕ)
       (can : (i : ℕ) → i < length x.places → writable t size (desc_addr table (get_or x.places i 0)) 16 ≡ true) where
     back' : (n k : ℕ) (m : List ℕ) (i : ℕ) (b : Bool) → ltb k i ≡ b → k ≤ i → i < length x.places → k + suc n ≤ length x.places → length m ≡ size
-        → (suc k ≤ i → desc_at t (stored t table x n (suc k) (after t m (desc_addr table (get_or x.places k 0)) (desc_bytes (link x k)))) (desc_addr table (get_or x.places i 0)) ≡ Desc (link x i))
-        → desc_at t (stored t table x n (suc k) (after t m (desc_addr table (get_or x.places k 0)) (desc_bytes (link x k)))) (desc_addr table (get_or x.places i 0)) ≡ Desc (link x i)
+        → (suc k ≤ i → desc_at t (stored t table x n (suc k) (after t m (desc_addr table (get_or x.places k 0)) (desc_bytes (link x k)))) (desc_addr table (get_or x.places i 0)) ≡ Some (link x i))
+        → desc_at t (stored t table x n (suc k) (after t m (desc_addr table (get_or x.places k 0)) (desc_bytes (link x k)))) (desc_addr table (get_or x.places i 0)) ≡ Some (link x i)
     back' n k m i true e h l a s ih = ih (ltb-true _ _ e)
     back' n k m i false e h l a s ih =
         let z : k ≡ i = omega (arith, ltb-false k i e) in
@@ -329,7 +374,7 @@ module _ (t : Table) (g : Good t) (table : ℕ) (x : Listed) where
         ∙ desc_back t g m (desc_addr table (get_or x.places i 0)) (link x i) (fits i) (rw s (can i l)))
 
     -- what was stored stands at its place
-    stored_back : (n k : ℕ) (m : List ℕ) (i : ℕ) → k ≤ i → i < k + n → k + n ≤ length x.places → length m ≡ size → desc_at t (stored t table x n k m) (desc_addr table (get_or x.places i 0)) ≡ Desc (link x i)
+    stored_back : (n k : ℕ) (m : List ℕ) (i : ℕ) → k ≤ i → i < k + n → k + n ≤ length x.places → length m ≡ size → desc_at t (stored t table x n k m) (desc_addr table (get_or x.places i 0)) ≡ Some (link x i)
     unfolding stored
     stored_back zero k m i h l a s = absurd (omega arith)
     stored_back (suc n) k m i h l a s =
@@ -338,8 +383,8 @@ module _ (t : Table) (g : Good t) (table : ℕ) (x : Listed) where
 
 -- descriptors that stand at their places, linked, are a chain
 module _ (t : Table) (m : List ℕ) (table q : ℕ) (x : Listed) (in_table : (i : ℕ) → i < length x.places → get_or x.places i 0 < q)
-    (at : (i : ℕ) → i < length x.places → desc_at t m (desc_addr table (get_or x.places i 0)) ≡ Desc (link x i)) where
-  at_entry : (k : ℕ) → k < length x.places → entry t m table q (get_or x.places k 0) ≡ Desc (link x k)
+    (at : (i : ℕ) → i < length x.places → desc_at t m (desc_addr table (get_or x.places i 0)) ≡ Some (link x i)) where
+  at_entry : (k : ℕ) → k < length x.places → entry t m table q (get_or x.places k 0) ≡ Some (link x k)
   at_entry k h = entry_in t m table q (get_or x.places k 0) (in_table k h) ∙ at k h
 
   links_chain : (n k : ℕ) → k + suc n ≡ length x.places → Chain t m table q (get_or x.places k 0) (links_from x (suc n) k)
@@ -359,109 +404,146 @@ unfolding links_from
 links-direct x zero k f = tt
 links-direct x (suc n) k f = (direct-true x k (f k (omega arith) (omega arith)), links-direct x n (suc k) (λ i h l. f i (omega arith) (omega arith)))
 
--- ---- lay_chain, test by test
+-- ---- what lay_of answers
+-- what holds where it finds nothing against the list
+record Passed (t : Table) (size table q : ℕ) (x : Listed) : Type 0 where
+  pub counts : Counted q x
+  pub below : (i : ℕ) → i < length x.places → below q x.places i ≡ true
+  pub fresh : (i : ℕ) → i < length x.places → fresh x.places i ≡ true
+  pub direct : (i : ℕ) → i < length x.places → direct x i ≡ true
+  pub sum : total (links x) ≤ sum_max
+  pub can : (i : ℕ) → i < length x.places → can_store t size table x.places i ≡ true
+
+module _ (t : Table) (size table q : ℕ) (x : Listed) where
+  each : (p : ℕ → Bool) → every p (length x.places) 0 ≡ true → (i : ℕ) → i < length x.places → p i ≡ true
+  each p h i l = every_all p (length x.places) 0 h i (omega arith) (omega arith)
+
+  refused : {A : Type 0} (e : LayError) → ◌≡◌ {A = Laid} (Err e) (Ok tt) → A
+  refused e h = absurd (true≢false (sym (ap is_done h)))
+
+  passed' : (a b f d s w : Bool) → counted q x ≡ a → every (below q x.places) (length x.places) 0 ≡ b → every (fresh x.places) (length x.places) 0 ≡ f
+      → every (direct x) (length x.places) 0 ≡ d → leb (total (links x)) sum_max ≡ s → every (can_store t size table x.places) (length x.places) 0 ≡ w
+      → ◌≡◌ {A = Laid} (pick a (pick b (pick f (pick d (pick s (pick w (Ok tt) (Err Unmapped)) (Err TooLong)) (Err Indirect)) (Err SamePlace)) (Err BadPlace)) (Err BadCount)) (Ok tt)
+      → Passed t size table q x
+  passed' true true true true true true g h i j k l e =
+      record { counts = counted-true q x g; below = each _ h; fresh = each _ i; direct = each _ j; sum = leb-true _ _ k; can = each _ l }
+  passed' true true true true true false g h i j k l e = refused Unmapped e
+  passed' true true true true false w g h i j k l e = refused TooLong e
+  passed' true true true false s w g h i j k l e = refused Indirect e
+  passed' true true false d s w g h i j k l e = refused SamePlace e
+  passed' true false f d s w g h i j k l e = refused BadPlace e
+  passed' false b f d s w g h i j k l e = refused BadCount e
+
+  passed : lay_of t size table q x ≡ Ok tt → Passed t size table q x
+  unfolding lay_of
+  passed h = passed' _ _ _ _ _ _ refl refl refl refl refl refl h
+
+-- ---- lay_chain
 module _ (t : Table) (m : List ℕ) (table q : ℕ) (x : Listed) where
   -- after a refusal memory is what it was
-  lay_refused : (r : Laid) → lay_of t (length m) table q x ≡ r → is_done r ≡ false → LaidDown t m table q x r m
-  lay_refused r e f = record { is = sym e; mem = rw f; back = λ g h. absurd (true≢false (sym (ap is_done h) ∙ f)) }
+  pub lay_refused : (e : LayError) → lay_of t (length m) table q x ≡ Err e → LaidDown t m table q x (Err e) m
+  lay_refused e h = record { is = sym h; mem = refl; back = λ g f. absurd (true≢false (sym (ap is_done f))) }
 
+  -- case by case, test after test: the ways in which it can answer
   module _ (b₁ : Bool) (e₁ : b₁ ≡ counted q x) where
-    count : not b₁ ≡ true → lay_of t (length m) table q x ≡ BadCount
+    count : not b₁ ≡ true → lay_of t (length m) table q x ≡ Err BadCount
     unfolding lay_of
     count h = rw (← e₁, not-true b₁ h)
 
-    pub lay_count : not b₁ ≡ true → LaidDown t m table q x BadCount m
-    lay_count h = lay_refused BadCount (count h) refl
+    pub lay_count : not b₁ ≡ true → LaidDown t m table q x (Err BadCount) m
+    lay_count h = lay_refused BadCount (count h)
 
     module _ (y₁ : not b₁ ≡ false) where
       pub lay_counted : Counted q x
       lay_counted = counted-true q x (sym e₁ ∙ not-false b₁ y₁)
 
       module _ (b₂ : Bool) (e₂ : b₂ ≡ every (below q x.places) (length x.places) 0) where
-        place : not b₂ ≡ true → lay_of t (length m) table q x ≡ BadPlace
+        place : not b₂ ≡ true → lay_of t (length m) table q x ≡ Err BadPlace
         unfolding lay_of
         place h = rw (← e₁, not-false b₁ y₁, ← e₂, not-true b₂ h)
 
-        pub lay_place : not b₂ ≡ true → LaidDown t m table q x BadPlace m
-        lay_place h = lay_refused BadPlace (place h) refl
+        pub lay_place : not b₂ ≡ true → LaidDown t m table q x (Err BadPlace) m
+        lay_place h = lay_refused BadPlace (place h)
 
         module _ (y₂ : not b₂ ≡ false) (b₃ : Bool) (e₃ : b₃ ≡ every (fresh x.places) (length x.places) 0) where
-          same : not b₃ ≡ true → lay_of t (length m) table q x ≡ SamePlace
+          same : not b₃ ≡ true → lay_of t (length m) table q x ≡ Err SamePlace
           unfolding lay_of
           same h = rw (← e₁, not-false b₁ y₁, ← e₂, not-false b₂ y₂, ← e₃, not-true b₃ h)
 
-          pub lay_same : not b₃ ≡ true → LaidDown t m table q x SamePlace m
-          lay_same h = lay_refused SamePlace (same h) refl
+          pub lay_same : not b₃ ≡ true → LaidDown t m table q x (Err SamePlace) m
+          lay_same h = lay_refused SamePlace (same h)
 
           module _ (y₃ : not b₃ ≡ false) (b₄ : Bool) (e₄ : b₄ ≡ every (direct x) (length x.places) 0) where
-            table' : not b₄ ≡ true → lay_of t (length m) table q x ≡ Indirect
+            table' : not b₄ ≡ true → lay_of t (length m) table q x ≡ Err Indirect
             unfolding lay_of
             table' h = rw (← e₁, not-false b₁ y₁, ← e₂, not-false b₂ y₂, ← e₃, not-false b₃ y₃, ← e₄, not-true b₄ h)
 
-            pub lay_indirect : not b₄ ≡ true → LaidDown t m table q x Indirect m
-            lay_indirect h = lay_refused Indirect (table' h) refl
+            pub lay_indirect : not b₄ ≡ true → LaidDown t m table q x (Err Indirect) m
+            lay_indirect h = lay_refused Indirect (table' h)
 
-            module _ (y₄ : not b₄ ≡ false) (b₅ : Bool) (e₅ : b₅ ≡ sum_fits (sums x.lens (length x.lens) 0)) where
-              sum_links : b₅ ≡ leb (total (links x)) sum_max
-              sum_links =
-                  let z : sums x.lens (length x.lens) 0 ≡ total (links x) = rw lay_counted.same.lens (sym (total-sums x (length x.places) 0)) in e₅ ∙ ap sum_fits z
+            module _ (y₄ : not b₄ ≡ false) (b₅ : Bool) (e₅ : b₅ ≡ leb (sum x.lens) sum_max) where
+              sum_total : b₅ ≡ leb (total (links x)) sum_max
+              sum_total = rw (sum-links x lay_counted.same) e₅
 
-              long : not b₅ ≡ true → lay_of t (length m) table q x ≡ TooLong
+              long : not b₅ ≡ true → lay_of t (length m) table q x ≡ Err TooLong
               unfolding lay_of
-              long h = rw (← e₁, not-false b₁ y₁, ← e₂, not-false b₂ y₂, ← e₃, not-false b₃ y₃, ← e₄, not-false b₄ y₄, ← sum_links, not-true b₅ h)
+              long h = rw (← e₁, not-false b₁ y₁, ← e₂, not-false b₂ y₂, ← e₃, not-false b₃ y₃, ← e₄, not-false b₄ y₄, ← sum_total, not-true b₅ h)
 
-              pub lay_long : not b₅ ≡ true → LaidDown t m table q x TooLong m
-              lay_long h = lay_refused TooLong (long h) refl
+              pub lay_long : not b₅ ≡ true → LaidDown t m table q x (Err TooLong) m
+              lay_long h = lay_refused TooLong (long h)
 
               module _ (y₅ : not b₅ ≡ false) (b₆ : Bool) (e₆ : b₆ ≡ every (can_store t (length m) table x.places) (length x.places) 0) where
-                unmapped : not b₆ ≡ true → lay_of t (length m) table q x ≡ Unmapped
+                unmapped : not b₆ ≡ true → lay_of t (length m) table q x ≡ Err Unmapped
                 unfolding lay_of
-                unmapped h = rw (← e₁, not-false b₁ y₁, ← e₂, not-false b₂ y₂, ← e₃, not-false b₃ y₃, ← e₄, not-false b₄ y₄, ← sum_links, not-false b₅ y₅, ← e₆, not-true b₆ h)
+                unmapped h =
+                    rw (← e₁, not-false b₁ y₁, ← e₂, not-false b₂ y₂, ← e₃, not-false b₃ y₃, ← e₄, not-false b₄ y₄, ← sum_total, not-false b₅ y₅, ← e₆, not-true b₆ h)
 
-                pub lay_unmapped : not b₆ ≡ true → LaidDown t m table q x Unmapped m
-                lay_unmapped h = lay_refused Unmapped (unmapped h) refl
+                pub lay_unmapped : not b₆ ≡ true → LaidDown t m table q x (Err Unmapped) m
+                lay_unmapped h = lay_refused Unmapped (unmapped h)
 
-                module _ (y₆ : not b₆ ≡ false) (m' : List ℕ) (w : m' ≡ stored t table x (length x.places) 0 m)
-                    (as' : (i : ℕ) → get_or x.addrs i 0 < 2 ^ 64) (ls : (i : ℕ) → get_or x.lens i 0 < 2 ^ 32) (fs : (i : ℕ) → get_or x.flags i 0 < 2 ^ 16) (ps : (i : ℕ) → get_or x.places i 0 < 2 ^ 16) where
-                  done : lay_of t (length m) table q x ≡ Done
-                  unfolding lay_of
-                  done = rw (← e₁, not-false b₁ y₁, ← e₂, not-false b₂ y₂, ← e₃, not-false b₃ y₃, ← e₄, not-false b₄ y₄, ← sum_links, not-false b₅ y₅, ← e₆, not-false b₆ y₆)
+                -- every test holds
+                pub lay_passes : not b₆ ≡ false → lay_of t (length m) table q x ≡ Ok tt
+                unfolding lay_of
+                lay_passes y₆ =
+                    rw (← e₁, not-false b₁ y₁, ← e₂, not-false b₂ y₂, ← e₃, not-false b₃ y₃, ← e₄, not-false b₄ y₄, ← sum_total, not-false b₅ y₅, ← e₆, not-false b₆ y₆)
 
-                  all_of : (p : ℕ → Bool) (b : Bool) → b ≡ every p (length x.places) 0 → not b ≡ false → (i : ℕ) → i < length x.places → p i ≡ true
-                  all_of p b e y i h = every_all p (length x.places) 0 (sym e ∙ not-false b y) i (omega arith) (omega arith)
+  module _ (l : Listed) (is : l ≡ x) (laid : lay_of t (length m) table q l ≡ Ok tt) (m' : List ℕ) (w : m' ≡ stored t table l (length l.places) 0 m)
+      (as' : (i : ℕ) → get_or x.addrs i 0 < 2 ^ 64) (ls : (i : ℕ) → get_or x.lens i 0 < 2 ^ 32) (fs : (i : ℕ) → get_or x.flags i 0 < 2 ^ 16) (ps : (i : ℕ) → get_or x.places i 0 < 2 ^ 16) where
+    all : Passed t (length m) table q x
+    all = passed t (length m) table q x (rw is at laid)
 
-                  lawful : Lawful q (links x)
-                  lawful =
-                      record {
-                        few = rw (links-length x (length x.places) 0) lay_counted.few;
-                        direct = links-direct x (length x.places) 0 (λ i h l. all_of (direct x) b₄ e₄ y₄ i (omega arith));
-                        sum = leb-true _ _ (sym sum_links ∙ not-false b₅ y₅);
-                      }
+    lawful : Lawful q (links x)
+    lawful =
+        record {
+          few = rw (links-length x (length x.places) 0) all.counts.few;
+          direct = links-direct x (length x.places) 0 (λ i h l. all.direct i (omega arith));
+          sum = all.sum;
+        }
 
-                  stand : Good t → (i : ℕ) → i < length x.places → desc_at t m' (desc_addr table (get_or x.places i 0)) ≡ Desc (link x i)
-                  stand g i h =
-                      rw w
-                      (stored_back t g table x (λ j. link_fits x j (as' j) (ls j) (fs j) (ps (j + 1)))
-                      (λ a b l u. fresh-true x.places a (all_of (fresh x.places) b₃ e₃ y₃ a u) b l)
-                      (length m)
-                      (λ j l. can_true x.places j t (length m) table (all_of (can_store t (length m) table x.places) b₆ e₆ y₆ j l))
-                      (length x.places) 0 m i (omega arith) (omega arith) (omega arith) refl)
+    stand : Good t → (i : ℕ) → i < length x.places → desc_at t m' (desc_addr table (get_or x.places i 0)) ≡ Some (link x i)
+    stand g i h =
+        rw (w, is)
+        (stored_back t g table x (λ j. link_fits x j (as' j) (ls j) (fs j) (ps (j + 1)))
+        (λ a b l u. fresh-true x.places a (all.fresh a u) b l)
+        (length m)
+        (λ j l. can_true x.places j t (length m) table (all.can j l))
+        (length x.places) 0 m i (omega arith) (omega arith) (omega arith) refl)
 
-                  chain : Good t → Chain t m' table q (get_or x.places 0 0) (links x)
-                  chain g =
-                      let one = lay_counted.one in
-                      let z : suc (length x.places - 1) ≡ length x.places = omega arith in
-                      rw z at
-                      (links_chain t m' table q x (λ i h. below_true x.places i q (all_of (below q x.places) b₂ e₂ y₂ i h)) (stand g) (length x.places - 1) 0 (omega arith))
+    chain : Good t → Chain t m' table q (get_or x.places 0 0) (links x)
+    chain g =
+        let one = all.counts.one in
+        let z : suc (length x.places - 1) ≡ length x.places = omega arith in
+        rw z at
+        (links_chain t m' table q x (λ i h. below_true x.places i q (all.below i h)) (stand g) (length x.places - 1) 0 (omega arith))
 
-                  pub lay_done : LaidDown t m table q x Done m'
-                  lay_done =
-                      record {
-                        is = sym done;
-                        mem = w;
-                        back = λ g h. record {
-                          plain = lawful_yields t m' table q (get_or x.places 0 0) (links x) (chain g) lawful;
-                          readable = lawful_filtered t m' table q (get_or x.places 0 0) (links x) (chain g) lawful false;
-                          writable = lawful_filtered t m' table q (get_or x.places 0 0) (links x) (chain g) lawful true;
-                        };
-                      }
+    pub lay_done : LaidDown t m table q x (Ok tt) m'
+    lay_done =
+        record {
+          is = sym (rw is at laid);
+          mem = rw is at w;
+          back = λ g h. record {
+            plain = lawful_yields t m' table q (get_or x.places 0 0) (links x) (chain g) lawful;
+            readable = lawful_filtered t m' table q (get_or x.places 0 0) (links x) (chain g) lawful false;
+            writable = lawful_filtered t m' table q (get_or x.places 0 0) (links x) (chain g) lawful true;
+          };
+        }

@@ -6,4 +6,5 @@ pub mod Links
 pub mod Right
 pub mod Stable
 pub mod Laying
+pub mod ListOf
 pub mod Worked

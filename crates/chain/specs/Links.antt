@@ -1,6 +1,6 @@
 -- SPDX-License-Identifier: Apache-2.0 AND BSD-3-Clause
 -- Laying a chain (VIRTIO 1.2, 2.7.5, 2.7.13.1): the descriptors that are stored, the tests before, and what is said of the memory after: definitions only.
-use Rattle.std.specs.Prelude.{ℕ, zero, suc, ◌+◌, ◌*◌, ◌/◌, ◌≡◌, Bool, true, false, not, List, [], ◌∷◌, length, get_or, ltb, leb, eqb}
+use Rattle.std.specs.Prelude.{ℕ, zero, suc, ◌+◌, ◌*◌, ◌/◌, ◌≡◌, Bool, true, false, not, Result, Ok, Err, List, [], ◌∷◌, length, get_or, ltb, leb, eqb}
 use Rattle.regions.specs.Table.{pick, Table, Good}
 use Rattle.memory.specs.Access.{writable, after}
 use Rattle.desc.specs.Layout.{desc_addr}
@@ -8,8 +8,8 @@ use Rattle.desc.specs.Desc.{descriptor, desc_bytes, is_indirect}
 use Rattle.desc.specs.declared.Descriptor.{Descriptor}
 use Rattle.chain.specs.Sequence.{sum_max, total, only}
 use Rattle.chain.specs.Steps.{chain_at, step_of, filtered_of, Yields}
-use Rattle.chain.specs.declared.lay.Laid.{Laid}
-use Rattle.chain.specs.declared.lay.Laid.TheVariants.{Done, BadCount, BadPlace, SamePlace, Indirect, TooLong, Unmapped}
+use Rattle.chain.specs.declared.lay.LayError.{LayError}
+use Rattle.chain.specs.declared.lay.LayError.TheVariants.{BadCount, BadPlace, SamePlace, Indirect, TooLong, Unmapped}
 
 -- a list of descriptors as a caller gives it: of each its place in the table, its addr, its len and its flags
 pub record Listed : Type 0 where
@@ -69,7 +69,10 @@ direct x k = not (is_indirect (link x k))
 unfoldable pub can_store : Table → ℕ → ℕ → List ℕ → ℕ → Bool
 can_store t size table ps k = writable t size (desc_addr table (get_or ps k 0)) 16
 
--- ---- what lay_chain answers, the first reason that holds, and what it leaves
+-- ---- what lay_chain answers, the first reason against it that holds, and what it leaves
+abbrev pub Laid : Type 0
+Laid = Result (Unit {0}) LayError
+
 unfoldable pub lay_of : Table → ℕ → ℕ → ℕ → Listed → Laid
 lay_of t size table q x =
     pick (counted q x)
@@ -77,21 +80,16 @@ lay_of t size table q x =
     (pick (every (fresh x.places) (length x.places) 0)
     (pick (every (direct x) (length x.places) 0)
     (pick (leb (total (links x)) sum_max)
-    (pick (every (can_store t size table x.places) (length x.places) 0) Done Unmapped)
-    TooLong)
-    Indirect)
-    SamePlace)
-    BadPlace)
-    BadCount
+    (pick (every (can_store t size table x.places) (length x.places) 0) (Ok tt) (Err Unmapped))
+    (Err TooLong))
+    (Err Indirect))
+    (Err SamePlace))
+    (Err BadPlace))
+    (Err BadCount)
 
 abbrev pub is_done : Laid → Bool
-is_done Done = true
-is_done BadCount = false
-is_done BadPlace = false
-is_done SamePlace = false
-is_done Indirect = false
-is_done TooLong = false
-is_done Unmapped = false
+is_done (Ok u) = true
+is_done (Err e) = false
 
 -- the plain walk from i on yields ds, the filtered ones their share of it, and then none
 pub record WalksTo (t : Table) (m : List ℕ) (table q i : ℕ) (ds : List Descriptor) : Type 0 where
@@ -103,4 +101,4 @@ pub record LaidDown (t : Table) (m : List ℕ) (table q : ℕ) (x : Listed) (r :
   pub is : r ≡ lay_of t (length m) table q x
   pub mem : m' ≡ pick (is_done r) (stored t table x (length x.places) 0 m) m
   -- the round trip, where no two guest addresses share a byte
-  pub back : Good t → r ≡ Done → WalksTo t m' table q (get_or x.places 0 0) (links x)
+  pub back : Good t → r ≡ Ok tt → WalksTo t m' table q (get_or x.places 0 0) (links x)

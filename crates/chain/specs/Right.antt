@@ -1,14 +1,12 @@
 -- SPDX-License-Identifier: Apache-2.0 AND BSD-3-Clause
 -- The walk is right about VIRTIO 1.2, 2.7.5: it is the sequence that NEXT and next give, cut as docs/QUEUE.md says (section 4); a lawful chain is walked
 -- whole, and then there is none.
-use Rattle.std.specs.Prelude.{ℕ, zero, suc, ◌+◌, ◌-◌, ◌≤◌, ◌≡◌, Bool, true, false, List, [], ◌∷◌, length, leb}
+use Rattle.std.specs.Prelude.{ℕ, zero, suc, ◌+◌, ◌-◌, ◌≤◌, ◌≡◌, Bool, true, false, Option, Some, None, List, [], ◌∷◌, length, leb}
 use Rattle.std.proofs.Common.{arith, sym, ap, ◌∙◌, le-leb, leb-true, leb-false}
 use Rattle.std.proofs.Math.Path.{refl}
 use Rattle.regions.specs.Table.{pick, Table}
 use Rattle.desc.specs.Desc.{has_next, is_indirect}
 use Rattle.desc.specs.declared.Descriptor.{Descriptor}
-use Rattle.desc.specs.declared.Found.{Found}
-use Rattle.desc.specs.declared.Found.TheVariants.{Desc, NoDesc}
 use Rattle.chain.specs.Sequence.{entry, Chain, last, more, sequence, sum_max, total, AllDirect, Lawful, cut, only}
 use Rattle.chain.specs.Steps.{chain_at, behind, next_entry, step_of, Yields, walk_of, filtered_of}
 use Rattle.chain.specs.Walk.{taken_indirect, taken_past, taken_next, step_ration, step_read, walk_end, walk_next, walk_yields, filtered_yields}
@@ -40,11 +38,11 @@ cut_all s (d ∷ ds) h p =
 
 -- ---- sequence
 module _ (t : Table) (m : List ℕ) (table q : ℕ) where
-  sequence_none : (k i : ℕ) → entry t m table q i ≡ NoDesc → sequence t m table q (suc k) i ≡ []
+  sequence_none : (k i : ℕ) → entry t m table q i ≡ None → sequence t m table q (suc k) i ≡ []
   unfolding sequence
   sequence_none k i e = rw e
 
-  sequence_found : (k i : ℕ) (d : Descriptor) → entry t m table q i ≡ Desc d → sequence t m table q (suc k) i ≡ d ∷ pick (has_next d) (sequence t m table q k d.next) []
+  sequence_found : (k i : ℕ) (d : Descriptor) → entry t m table q i ≡ Some d → sequence t m table q (suc k) i ≡ d ∷ pick (has_next d) (sequence t m table q k d.next) []
   unfolding sequence
   sequence_found k i d e = rw e
 
@@ -60,7 +58,7 @@ module _ (t : Table) (m : List ℕ) (table q : ℕ) where
   chain_sequence (more {i} {d} e n c) (suc k) h = sequence_found k i d e ∙ rw n (ap (λ (l : List Descriptor). d ∷ l) (chain_sequence c k (omega arith)))
 
   -- a cut sequence is as many of its first descriptors as it has
-  first'' : (b x p : Bool) (k s i : ℕ) (d : Descriptor) → has_next d ≡ b → is_indirect d ≡ x → leb (s + d.len) sum_max ≡ p → entry t m table q i ≡ Desc d
+  first'' : (b x p : Bool) (k s i : ℕ) (d : Descriptor) → has_next d ≡ b → is_indirect d ≡ x → leb (s + d.len) sum_max ≡ p → entry t m table q i ≡ Some d
       → cut (s + d.len) (sequence t m table q k d.next) ≡ sequence t m table q (length (cut (s + d.len) (sequence t m table q k d.next))) d.next
       → cut s (d ∷ pick b (sequence t m table q k d.next) []) ≡ sequence t m table q (length (cut s (d ∷ pick b (sequence t m table q k d.next) []))) i
   first'' b true p k s i d n x y e ih = rw (cut_indirect s d (pick b (sequence t m table q k d.next) []) x, sequence-zero i)
@@ -71,10 +69,10 @@ module _ (t : Table) (m : List ℕ) (table q : ℕ) where
   first'' false false true k s i d n x y e ih =
       rw (cut_keeps s d [] x y, cut_none) (sym (sequence_found 0 i d e ∙ rw n))
 
-  first' : (f : Found) (k s i : ℕ) → entry t m table q i ≡ f → ((s j : ℕ) → cut s (sequence t m table q k j) ≡ sequence t m table q (length (cut s (sequence t m table q k j))) j)
+  first' : (f : Option Descriptor) (k s i : ℕ) → entry t m table q i ≡ f → ((s j : ℕ) → cut s (sequence t m table q k j) ≡ sequence t m table q (length (cut s (sequence t m table q k j))) j)
       → cut s (sequence t m table q (suc k) i) ≡ sequence t m table q (length (cut s (sequence t m table q (suc k) i))) i
-  first' (Desc d) k s i e ih = rw (sequence_found k i d e) (first'' (has_next d) _ _ k s i d refl refl refl e (ih (s + d.len) d.next))
-  first' NoDesc k s i e ih = rw (sequence_none k i e, cut_none, sequence-zero i)
+  first' (Some d) k s i e ih = rw (sequence_found k i d e) (first'' (has_next d) _ _ k s i d refl refl refl e (ih (s + d.len) d.next))
+  first' None k s i e ih = rw (sequence_none k i e, cut_none, sequence-zero i)
 
   pub cut_first : (k s i : ℕ) → cut s (sequence t m table q k i) ≡ sequence t m table q (length (cut s (sequence t m table q k i))) i
   cut_first zero s i = rw (sequence-zero i, cut_none, sequence-zero i)
@@ -94,7 +92,7 @@ module _ (t : Table) (m : List ℕ) where
   behind-ahead true c d j n e h = let z : c.ttl - 1 ≡ j = omega arith in h ∙ rw (n, z)
   behind-ahead false c d j n e h = h ∙ rw (n, sequence-zero)
 
-  taken'' : (x p : Bool) (c : DescriptorChain) (d : Descriptor) (j : ℕ) → is_indirect d ≡ x → leb (c.yielded_bytes + d.len) sum_max ≡ p → next_entry t m c ≡ Desc d → c.ttl ≡ suc j → Cut (behind c d)
+  taken'' : (x p : Bool) (c : DescriptorChain) (d : Descriptor) (j : ℕ) → is_indirect d ≡ x → leb (c.yielded_bytes + d.len) sum_max ≡ p → next_entry t m c ≡ Some d → c.ttl ≡ suc j → Cut (behind c d)
       → walk_of t m c ≡ cut c.yielded_bytes (d ∷ pick (has_next d) (sequence t m c.desc_table c.queue_size j d.next) [])
   taken'' true p c d j x y f e h = walk_end t m c (step_read t m c (omega arith) ∙ rw f (taken_indirect c d x)) ∙ sym (cut_indirect _ d _ x)
   taken'' false false c d j x y f e h =
@@ -103,10 +101,10 @@ module _ (t : Table) (m : List ℕ) where
       walk_next t m c d (behind c d) (step_read t m c (omega arith) ∙ rw f (taken_next c d x (leb-true _ _ y)))
       ∙ sym (cut_keeps _ d _ x y ∙ ap (λ (l : List Descriptor). d ∷ l) (sym (behind-ahead (has_next d) c d j refl e h)))
 
-  taken' : (f : Found) (c : DescriptorChain) (j : ℕ) → next_entry t m c ≡ f → c.ttl ≡ suc j → ((d : Descriptor) → Cut (behind c d)) → Cut c
-  taken' (Desc d) c j f e ih =
+  taken' : (f : Option Descriptor) (c : DescriptorChain) (j : ℕ) → next_entry t m c ≡ f → c.ttl ≡ suc j → ((d : Descriptor) → Cut (behind c d)) → Cut c
+  taken' (Some d) c j f e ih =
       taken'' _ _ c d j refl refl f e (ih d) ∙ rw e (ap (cut c.yielded_bytes) (sym (sequence_found t m c.desc_table c.queue_size j c.next_index d f)))
-  taken' NoDesc c j f e ih =
+  taken' None c j f e ih =
       walk_end t m c (step_read t m c (omega arith) ∙ rw f) ∙ rw (e, sequence_none t m c.desc_table c.queue_size j c.next_index f, cut_none)
 
   behind_less : (b : Bool) (k n : ℕ) → n ≤ suc k → pick b (n - 1) 0 ≤ k

@@ -1,26 +1,24 @@
 -- SPDX-License-Identifier: Apache-2.0 AND BSD-3-Clause
 -- Descriptor chains as VIRTIO 1.2 has them (2.7.5), of a table of q descriptors at guest address table: definitions only.
-use Rattle.std.specs.Prelude.{ℕ, zero, suc, ◌+◌, ◌≤◌, ◌≡◌, Bool, true, false, List, [], ◌∷◌, length, ltb, leb}
+use Rattle.std.specs.Prelude.{ℕ, zero, suc, ◌+◌, ◌≤◌, ◌≡◌, Bool, true, false, Option, Some, None, List, [], ◌∷◌, length, ltb, leb}
 use Rattle.std.specs.Bool.{beq}
 use Rattle.regions.specs.Table.{pick, Table}
 use Rattle.desc.specs.Layout.{desc_addr}
 use Rattle.desc.specs.Desc.{has_next, is_write_only, is_indirect, desc_at}
 use Rattle.desc.specs.declared.Descriptor.{Descriptor}
-use Rattle.desc.specs.declared.Found.{Found}
-use Rattle.desc.specs.declared.Found.TheVariants.{Desc, NoDesc}
 
 -- descriptor i of the table (2.7.5): the table has q, and each is 16 bytes
-unfoldable pub entry : Table → List ℕ → ℕ → ℕ → ℕ → Found
-entry t m table q i = pick (ltb i q) (desc_at t m (desc_addr table i)) NoDesc
+unfoldable pub entry : Table → List ℕ → ℕ → ℕ → ℕ → Option Descriptor
+entry t m table q i = pick (ltb i q) (desc_at t m (desc_addr table i)) None
 
-abbrev pub on_found : {A : Type 0} → Found → (Descriptor → A) → A → A
-on_found (Desc d) f a = f d
-on_found NoDesc f a = a
+abbrev pub on_found : {A : Type 0} → Option Descriptor → (Descriptor → A) → A → A
+on_found (Some d) f a = f d
+on_found None f a = a
 
 -- a chain from i on (2.7.5): one descriptor without NEXT, or one with NEXT and a chain from its next on
 pub data Chain (t : Table) (m : List ℕ) (table q : ℕ) : ℕ → List Descriptor → Type 0 where
-  last : {i : ℕ} {d : Descriptor} → entry t m table q i ≡ Desc d → has_next d ≡ false → Chain t m table q i (d ∷ [])
-  more : {i : ℕ} {d : Descriptor} {ds : List Descriptor} → entry t m table q i ≡ Desc d → has_next d ≡ true → Chain t m table q d.next ds → Chain t m table q i (d ∷ ds)
+  last : {i : ℕ} {d : Descriptor} → entry t m table q i ≡ Some d → has_next d ≡ false → Chain t m table q i (d ∷ [])
+  more : {i : ℕ} {d : Descriptor} {ds : List Descriptor} → entry t m table q i ≡ Some d → has_next d ≡ true → Chain t m table q d.next ds → Chain t m table q i (d ∷ ds)
 
 -- the descriptors that NEXT and next give from i on, possibly without end: the first k of them
 unfoldable pub sequence : Table → List ℕ → ℕ → ℕ → ℕ → ℕ → List Descriptor

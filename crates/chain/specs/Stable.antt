@@ -2,7 +2,7 @@
 -- What a walk does not depend on: bytes that the table of regions does not map (isolation), and writes apart from the descriptors that it reads.
 use Prim.Native.Nat.{ℕ, zero, suc, ◌<◌}
 use Rattle.std.proofs.Common.{arith, sym, ap, ◌∙◌, inl, inr, true≢false}
-use Rattle.std.specs.Prelude.{◌≡◌, Bool, true, false, List, [], ◌∷◌, length, ltb}
+use Rattle.std.specs.Prelude.{◌≡◌, Bool, true, false, Some, None, List, [], ◌∷◌, length, ltb}
 use Rattle.std.proofs.Math.Path.{refl, subst}
 use Rattle.wire.specs.Part.{Apart}
 use Rattle.regions.specs.Table.{pick, Table, Good}
@@ -10,13 +10,10 @@ use Rattle.memory.specs.Access.{after, Agree}
 use Rattle.desc.specs.Layout.{desc_addr, desc_table_size}
 use Rattle.desc.specs.Desc.{desc_at, desc_agree, desc_apart}
 use Rattle.desc.specs.declared.Descriptor.{Descriptor}
-use Rattle.desc.specs.declared.Found.TheVariants.{NoDesc}
 use Rattle.chain.specs.Sequence.{entry, on_found, wanted}
-use Rattle.chain.specs.Steps.{taken, step_of, on_step, walk, walk_of, seek, filtered_of, reads, looks, looked_of}
+use Rattle.chain.specs.Steps.{Step, taken, step_of, on_step, walk, walk_of, seek, filtered_of, reads, looks, looked_of}
 use Rattle.chain.specs.Walk.{step_falls, reads_index, yields_reads, walk_enough, seek_enough}
 use Rattle.chain.specs.declared.DescriptorChain.{DescriptorChain}
-use Rattle.chain.specs.declared.Step.{Step}
-use Rattle.chain.specs.declared.Step.TheVariants.{Next, End}
 
 -- ---- isolation
 module _ (t : Table) (m k : List ℕ) (h : Agree t m k) where
@@ -25,8 +22,8 @@ module _ (t : Table) (m k : List ℕ) (h : Agree t m k) where
   step_agree c = rw (desc_agree t m k h)
 
   walk' : (n : ℕ) (s : Step) → ((r : DescriptorChain) → walk n t m r ≡ walk n t k r) → on_step s (λ d r. d ∷ walk n t m r) [] ≡ on_step s (λ d r. d ∷ walk n t k r) []
-  walk' n (Next d r) ih = ap (λ (l : List Descriptor). d ∷ l) (ih r)
-  walk' n End ih = refl
+  walk' n (Some (d, r)) ih = ap (λ (l : List Descriptor). d ∷ l) (ih r)
+  walk' n None ih = refl
 
   walk_agree_to : (n : ℕ) (c : DescriptorChain) → walk n t m c ≡ walk n t k c
   unfolding walk
@@ -39,9 +36,9 @@ module _ (t : Table) (m k : List ℕ) (h : Agree t m k) where
 
   module _ (w : Bool) where
     seek' : (n : ℕ) (s : Step) → ((r : DescriptorChain) → seek w n t m r ≡ seek w n t k r)
-        → on_step s (λ d r. pick (wanted w d) (Next d r) (seek w n t m r)) End ≡ on_step s (λ d r. pick (wanted w d) (Next d r) (seek w n t k r)) End
-    seek' n (Next d r) ih = ap (λ (s : Step). pick (wanted w d) (Next d r) s) (ih r)
-    seek' n End ih = refl
+        → on_step s (λ d r. pick (wanted w d) (Some (d, r)) (seek w n t m r)) None ≡ on_step s (λ d r. pick (wanted w d) (Some (d, r)) (seek w n t k r)) None
+    seek' n (Some (d, r)) ih = ap (λ (s : Step). pick (wanted w d) (Some (d, r)) s) (ih r)
+    seek' n None ih = refl
 
     seek_agree : (n : ℕ) (c : DescriptorChain) → seek w n t m c ≡ seek w n t k c
     unfolding seek
@@ -64,8 +61,8 @@ never d = false
 
 module _ (t : Table) (g : Good t) (m : List ℕ) (a : ℕ) (bs : List ℕ) where
   step'' : (x y : Bool) (c : DescriptorChain) → (pick x y false ≡ true → Apart a (length bs) (desc_addr c.desc_table c.next_index) 16)
-      → pick x (on_found (pick y (desc_at t (after t m a bs) (desc_addr c.desc_table c.next_index)) NoDesc) (taken c) End) End
-      ≡ pick x (on_found (pick y (desc_at t m (desc_addr c.desc_table c.next_index)) NoDesc) (taken c) End) End
+      → pick x (on_found (pick y (desc_at t (after t m a bs) (desc_addr c.desc_table c.next_index)) None) (taken c) None) None
+      ≡ pick x (on_found (pick y (desc_at t m (desc_addr c.desc_table c.next_index)) None) (taken c) None) None
   step'' true true c h = rw (desc_apart t g m a bs (desc_addr c.desc_table c.next_index) (h refl))
   step'' true false c h = refl
   step'' false y c h = refl
@@ -81,15 +78,15 @@ module _ (t : Table) (g : Good t) (m : List ℕ) (a : ℕ) (bs : List ℕ) where
   spared_first false c l e h r = absurd (true≢false (sym r ∙ e))
 
   -- a step that yields read its descriptor
-  spared_rest : (b : Bool) (c : DescriptorChain) (d : Descriptor) (r : DescriptorChain) (l : List ℕ) → reads c ≡ b → step_of t m c ≡ Next d r → Spared a (length bs) c.desc_table (pick b (c.next_index ∷ l) []) → Spared a (length bs) r.desc_table l
+  spared_rest : (b : Bool) (c : DescriptorChain) (d : Descriptor) (r : DescriptorChain) (l : List ℕ) → reads c ≡ b → step_of t m c ≡ Some (d, r) → Spared a (length bs) c.desc_table (pick b (c.next_index ∷ l) []) → Spared a (length bs) r.desc_table l
   spared_rest true c d r l e f h = rw (step_falls t m c d r f).table h.1
   spared_rest false c d r l e f h = absurd (true≢false (sym (yields_reads t m c d r f) ∙ e))
 
   apart' : (n : ℕ) (c : DescriptorChain) (s : Step) → step_of t m c ≡ s → ((r : DescriptorChain) → Spared a (length bs) r.desc_table (looks never n t m r) → walk n t (after t m a bs) r ≡ walk n t m r)
       → Spared a (length bs) c.desc_table (pick (reads c) (c.next_index ∷ on_step s (λ d r. looks never n t m r) []) [])
       → on_step s (λ d r. d ∷ walk n t (after t m a bs) r) [] ≡ on_step s (λ d r. d ∷ walk n t m r) []
-  apart' n c (Next d r) e ih h = ap (λ (l : List Descriptor). d ∷ l) (ih r (spared_rest (reads c) c d r (looks never n t m r) refl e h))
-  apart' n c End e ih h = refl
+  apart' n c (Some (d, r)) e ih h = ap (λ (l : List Descriptor). d ∷ l) (ih r (spared_rest (reads c) c d r (looks never n t m r) refl e h))
+  apart' n c None e ih h = refl
 
   walk_apart_to : (n : ℕ) (c : DescriptorChain) → Spared a (length bs) c.desc_table (looks never n t m c) → walk n t (after t m a bs) c ≡ walk n t m c
   unfolding walk looks
@@ -105,19 +102,19 @@ module _ (t : Table) (g : Good t) (m : List ℕ) (a : ℕ) (bs : List ℕ) where
       ∙ walk_enough t m (suc c.ttl) c.ttl c (omega arith) (omega arith)
 
   module _ (w : Bool) where
-    sought'' : (b : Bool) (n : ℕ) (c : DescriptorChain) (d : Descriptor) (r : DescriptorChain) → step_of t m c ≡ Next d r
+    sought'' : (b : Bool) (n : ℕ) (c : DescriptorChain) (d : Descriptor) (r : DescriptorChain) → step_of t m c ≡ Some (d, r)
         → (Spared a (length bs) r.desc_table (looks (wanted w) n t m r) → seek w n t (after t m a bs) r ≡ seek w n t m r)
         → Spared a (length bs) r.desc_table (pick b [] (looks (wanted w) n t m r))
-        → pick b (Next d r) (seek w n t (after t m a bs) r) ≡ pick b (Next d r) (seek w n t m r)
+        → pick b (Some (d, r)) (seek w n t (after t m a bs) r) ≡ pick b (Some (d, r)) (seek w n t m r)
     sought'' true n c d r e ih h = refl
     sought'' false n c d r e ih h = ih h
 
     sought' : (n : ℕ) (c : DescriptorChain) (s : Step) → step_of t m c ≡ s → ((r : DescriptorChain) → Spared a (length bs) r.desc_table (looks (wanted w) n t m r) → seek w n t (after t m a bs) r ≡ seek w n t m r)
         → Spared a (length bs) c.desc_table (pick (reads c) (c.next_index ∷ on_step s (λ d r. pick (wanted w d) [] (looks (wanted w) n t m r)) []) [])
-        → on_step s (λ d r. pick (wanted w d) (Next d r) (seek w n t (after t m a bs) r)) End ≡ on_step s (λ d r. pick (wanted w d) (Next d r) (seek w n t m r)) End
-    sought' n c (Next d r) e ih h =
+        → on_step s (λ d r. pick (wanted w d) (Some (d, r)) (seek w n t (after t m a bs) r)) None ≡ on_step s (λ d r. pick (wanted w d) (Some (d, r)) (seek w n t m r)) None
+    sought' n c (Some (d, r)) e ih h =
         sought'' (wanted w d) n c d r e (ih r) (spared_rest (reads c) c d r (pick (wanted w d) [] (looks (wanted w) n t m r)) refl e h)
-    sought' n c End e ih h = refl
+    sought' n c None e ih h = refl
 
     seek_apart : (n : ℕ) (c : DescriptorChain) → Spared a (length bs) c.desc_table (looks (wanted w) n t m c) → seek w n t (after t m a bs) c ≡ seek w n t m c
     unfolding seek looks
@@ -144,13 +141,13 @@ module _ (t : Table) (m : List ℕ) (stop : Descriptor → Bool) (a n : ℕ) whe
   table' : (b : Bool) (k : ℕ) (c : DescriptorChain) (s : Step) → reads c ≡ b → step_of t m c ≡ s → Apart a n c.desc_table (desc_table_size c.queue_size)
       → ((r : DescriptorChain) → Apart a n r.desc_table (desc_table_size r.queue_size) → Spared a n r.desc_table (looks stop k t m r))
       → Spared a n c.desc_table (pick b (c.next_index ∷ on_step s (λ d r. pick (stop d) [] (looks stop k t m r)) []) [])
-  table' true k c (Next d r) e f h ih =
+  table' true k c (Some (d, r)) e f h ih =
       let w = step_falls t m c d r f in (
         at_index _ _ _ h (reads_index c e),
         subst (λ (x : ℕ). Spared a n x (pick (stop d) [] (looks stop k t m r))) w.table
             (table'' (stop d) r.desc_table (looks stop k t m r) (ih r (rw (w.table, w.size) h))),
       )
-  table' true k c End e f h ih = (at_index _ _ _ h (reads_index c e), tt)
+  table' true k c None e f h ih = (at_index _ _ _ h (reads_index c e), tt)
   table' false k c s e f h ih = tt
 
   table-looks : (k : ℕ) (c : DescriptorChain) → Apart a n c.desc_table (desc_table_size c.queue_size) → Spared a n c.desc_table (looks stop k t m c)

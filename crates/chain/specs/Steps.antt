@@ -1,14 +1,11 @@
 -- SPDX-License-Identifier: Apache-2.0 AND BSD-3-Clause
 -- What the calls on a chain answer, for every chain value and every memory: definitions only.
-use Rattle.std.specs.Prelude.{ℕ, zero, suc, ◌+◌, ◌-◌, ◌≤◌, ◌≡◌, Bool, false, List, [], ◌∷◌, length, ltb, leb}
+use Rattle.std.specs.Prelude.{ℕ, zero, suc, ◌+◌, ◌-◌, ◌≤◌, ◌≡◌, Bool, false, Option, Some, None, List, [], ◌∷◌, length, ltb, leb}
 use Rattle.regions.specs.Table.{pick, Table}
 use Rattle.desc.specs.Desc.{has_next, is_indirect}
 use Rattle.desc.specs.declared.Descriptor.{Descriptor}
-use Rattle.desc.specs.declared.Found.{Found}
 use Rattle.chain.specs.Sequence.{entry, on_found, sum_max, wanted}
 use Rattle.chain.specs.declared.DescriptorChain.{DescriptorChain}
-use Rattle.chain.specs.declared.Step.{Step}
-use Rattle.chain.specs.declared.Step.TheVariants.{Next, End}
 
 -- a chain at its head: the ration is the table's size
 abbrev pub chain_at : ℕ → ℕ → ℕ → DescriptorChain
@@ -19,30 +16,34 @@ abbrev pub moved : DescriptorChain → ℕ → ℕ → ℕ → DescriptorChain
 moved c i k s =
     record { desc_table = c.desc_table; queue_size = c.queue_size; head_index = c.head_index; next_index = i; ttl = k; yielded_bytes = s }
 
+-- what a step answers: the next descriptor with the chain behind it, or that there is none
+abbrev pub Step : Type 0
+Step = Option (Descriptor × DescriptorChain)
+
 -- the chain behind descriptor d: with NEXT on at its next, without at the end
 abbrev pub behind : DescriptorChain → Descriptor → DescriptorChain
 behind c d = moved c (pick (has_next d) d.next c.next_index) (pick (has_next d) (c.ttl - 1) 0) (c.yielded_bytes + d.len)
 
 -- descriptor d was read: none if it is a table, or takes the sum past the limit
 unfoldable pub taken : DescriptorChain → Descriptor → Step
-taken c d = pick (is_indirect d) End (pick (leb (c.yielded_bytes + d.len) sum_max) (Next d (behind c d)) End)
+taken c d = pick (is_indirect d) None (pick (leb (c.yielded_bytes + d.len) sum_max) (Some (d, behind c d)) None)
 
 -- the descriptor that is next
-abbrev pub next_entry : Table → List ℕ → DescriptorChain → Found
+abbrev pub next_entry : Table → List ℕ → DescriptorChain → Option Descriptor
 next_entry t m c = entry t m c.desc_table c.queue_size c.next_index
 
 -- the next descriptor: none if the ration is used up
 unfoldable pub step_of : Table → List ℕ → DescriptorChain → Step
-step_of t m c = pick (ltb 0 c.ttl) (on_found (next_entry t m c) (taken c) End) End
+step_of t m c = pick (ltb 0 c.ttl) (on_found (next_entry t m c) (taken c) None) None
 
 abbrev pub on_step : {A : Type 0} → Step → (Descriptor → DescriptorChain → A) → A → A
-on_step (Next d c) f a = f d c
-on_step End f a = a
+on_step (Some (d, c)) f a = f d c
+on_step None f a = a
 
 -- step, made over and over from c on, yields these descriptors and then none
 pub data Yields (step : DescriptorChain → Step) : DescriptorChain → List Descriptor → Type 0 where
-  none : {c : DescriptorChain} → step c ≡ End → Yields step c []
-  some : {c r : DescriptorChain} {d : Descriptor} {ds : List Descriptor} → step c ≡ Next d r → Yields step r ds → Yields step c (d ∷ ds)
+  none : {c : DescriptorChain} → step c ≡ None → Yields step c []
+  some : {c r : DescriptorChain} {d : Descriptor} {ds : List Descriptor} → step c ≡ Some (d, r) → Yields step r ds → Yields step c (d ∷ ds)
 
 -- the walk: what k steps yield at most, and what as many as the ration do
 unfoldable pub walk : ℕ → Table → List ℕ → DescriptorChain → List Descriptor
@@ -54,8 +55,8 @@ walk_of t m c = walk c.ttl t m c
 
 -- the next readable or writable descriptor, the others skipped: in k steps at most, and in as many as the ration
 unfoldable pub seek : Bool → ℕ → Table → List ℕ → DescriptorChain → Step
-seek w zero t m c = End
-seek w (suc k) t m c = on_step (step_of t m c) (λ d r. pick (wanted w d) (Next d r) (seek w k t m r)) End
+seek w zero t m c = None
+seek w (suc k) t m c = on_step (step_of t m c) (λ d r. pick (wanted w d) (Some (d, r)) (seek w k t m r)) None
 
 unfoldable pub filtered_of : Bool → Table → List ℕ → DescriptorChain → Step
 filtered_of w t m c = seek w c.ttl t m c

@@ -1,14 +1,13 @@
 -- SPDX-License-Identifier: Apache-2.0 AND BSD-3-Clause
 -- The worked values for chains (docs/QUEUE.md, section 7), for every memory that holds such descriptors in a table of 8: what next yields, over and
 -- over, before it says that there is none.
-use Rattle.std.specs.Prelude.{ℕ, ◌≡◌, true, List, [], ◌∷◌, length}
+use Rattle.std.specs.Prelude.{ℕ, ◌≡◌, true, Some, List, [], ◌∷◌, length}
 use Rattle.std.proofs.Common.{arith, ◌∙◌}
 use Rattle.regions.specs.Table.{Table, Good}
 use Rattle.memory.specs.Access.{writable, after}
 use Rattle.desc.specs.Layout.{desc_addr}
 use Rattle.desc.specs.Desc.{descriptor, desc_bytes, desc_back}
 use Rattle.desc.specs.declared.Descriptor.{Descriptor}
-use Rattle.desc.specs.declared.Found.TheVariants.{Desc}
 use Rattle.chain.specs.Sequence.{entry, sequence, cut}
 use Rattle.chain.specs.Steps.{chain_at, step_of, walk_of, Yields}
 use Rattle.chain.specs.Walk.{entry_in, walk_yields}
@@ -24,19 +23,19 @@ itself = descriptor 4096 16 1 3
 
 module _ (t : Table) (m : List ℕ) (table : ℕ) where
   -- a descriptor that names itself: 8 descriptors, then none
-  pub worked_itself : entry t m table 8 3 ≡ Desc itself
+  pub worked_itself : entry t m table 8 3 ≡ Some itself
       → Yields (step_of t m) (chain_at table 8 3) (itself ∷ itself ∷ itself ∷ itself ∷ itself ∷ itself ∷ itself ∷ itself ∷ [])
   unfolding sequence cut
   worked_itself e = yields t m table 3 _ (walk_cut t m (chain_at table 8 3) ∙ simp e)
 
   -- lens 0xffffffff and 1: one descriptor, then none
-  pub worked_past : entry t m table 8 0 ≡ Desc (descriptor 4096 4294967295 1 1) → entry t m table 8 1 ≡ Desc (descriptor 4096 1 0 0)
+  pub worked_past : entry t m table 8 0 ≡ Some (descriptor 4096 4294967295 1 1) → entry t m table 8 1 ≡ Some (descriptor 4096 1 0 0)
       → Yields (step_of t m) (chain_at table 8 0) (descriptor 4096 4294967295 1 1 ∷ [])
   unfolding sequence cut
   worked_past e f = yields t m table 0 _ (walk_cut t m (chain_at table 8 0) ∙ simp (e, f))
 
   -- lens 0x80000000 and 0x7fffffff: two descriptors
-  pub worked_full : entry t m table 8 0 ≡ Desc (descriptor 4096 2147483648 1 1) → entry t m table 8 1 ≡ Desc (descriptor 4096 2147483647 0 0)
+  pub worked_full : entry t m table 8 0 ≡ Some (descriptor 4096 2147483648 1 1) → entry t m table 8 1 ≡ Some (descriptor 4096 2147483647 0 0)
       → Yields (step_of t m) (chain_at table 8 0) (descriptor 4096 2147483648 1 1 ∷ descriptor 4096 2147483647 0 0 ∷ [])
   unfolding sequence cut
   worked_full e f = yields t m table 0 _ (walk_cut t m (chain_at table 8 0) ∙ simp (e, f))

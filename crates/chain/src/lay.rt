@@ -1,15 +1,15 @@
 // SPDX-License-Identifier: Apache-2.0 AND BSD-3-Clause
 // Laying a chain into guest memory, what a driver does: every test comes before the first write, so that a refusal changes nothing.
-ghost use Rattle.std.specs.Prelude.{◌≡◌, ◌<◌, length};
-ghost use Rattle.chain.specs.Links.{listed, link_flags, link, every, counted, below, fresh, direct, can_store, stored, LaidDown};
-ghost use Rattle.chain.specs.Laying.{SameLength, In, sums, sum_fits};
+ghost use Rattle.std.specs.Prelude.{◌≡◌, ◌<◌, ◌^◌, length, leb, sum, SomeIff, MatchOption};
+ghost use Rattle.chain.specs.Sequence.{sum_max, total};
+ghost use Rattle.chain.specs.Links.{listed, link_flags, link, links, every, counted, below, fresh, direct, can_store, lay_of, stored, LaidDown};
+ghost use Rattle.chain.specs.Laying.{SameLength};
 
 use desc::Descriptor;
 
-// What laying a chain answers: that it was laid, or the first reason against it, in this order.
-#[derive(Clone, Copy)]
-pub enum Laid {
-    Done,
+// The first reason against laying a chain, in this order.
+#[derive(Clone, Copy, Debug, PartialEq, Eq)]
+pub enum LayError {
     // No descriptors, more than the table has, or lists of unequal lengths.
     BadCount,
     // A place beyond the table.
@@ -30,165 +30,173 @@ fn link_flags(f: u16, more: bool) -> u16
     if more { f / 2 * 2 + 1 } else { f / 2 * 2 }
 }
 
-// The k-th descriptor as it is stored: with NEXT and the next place if another follows, without if not.
-fn link(places: &[u16], addrs: &[u64], lens: &[u32], flags: &[u16], k: usize) -> Descriptor
-    requires { In k (listed places.now addrs.now lens.now flags.now) }
-    ensures { result ≡ link (listed places.now addrs.now lens.now flags.now) k }
-{
-    let addr = addrs[k];
-    let len = lens[k];
-    if k + 1 < places.len() {
-        return Descriptor {
-            addr,
-            len,
-            flags: link_flags(flags[k], true),
-            next: places[k + 1],
-        };
-    }
-    Descriptor {
-        addr,
-        len,
-        flags: link_flags(flags[k], false),
-        next: 0,
-    }
+// A list of descriptors as a caller gives it: of each its place in the table, its addr, its len and its flags.
+#[derive(Clone, Copy)]
+struct List<'a> {
+    places: &'a [u16],
+    addrs: &'a [u64],
+    lens: &'a [u32],
+    flags: &'a [u16],
+    ghost same: { SameLength (listed places.now addrs.now lens.now flags.now) },
 }
 
 // ---- the tests
 
-fn counted(queue_size: u16, places: &[u16], addrs: &[u64], lens: &[u32], flags: &[u16]) -> bool
-    ensures { result ≡ counted queue_size (listed places.now addrs.now lens.now flags.now) }
-{
-    let n = places.len();
-    if n == 0 {
-        return false;
-    }
-    if (queue_size as usize) < n {
-        return false;
-    }
-    if addrs.len() != n {
-        return false;
-    }
-    if lens.len() != n {
-        return false;
-    }
-    flags.len() == n
-}
-
 fn all_below(queue_size: u16, places: &[u16]) -> bool
     ensures { result ≡ every (below queue_size places.now) (length places.now) 0 }
 {
-    let mut k: usize = 0;
-    while k < places.len() {
-        if places[k] >= queue_size {
-            return false;
-        }
-        k += 1;
-    }
-    true
+    places.iter().all(|place| *place < queue_size)
 }
 
-// Whether no place before the k-th is the same.
-fn is_fresh(places: &[u16], k: usize) -> bool
-    requires { k < length places.now }
-    ensures { result ≡ fresh places.now k }
-{
-    let place = places[k];
-    let mut j: usize = 0;
-    while j < k {
-        if places[j] == place {
-            return false;
-        }
-        j += 1;
-    }
-    true
-}
-
+// Whether no place is named twice.
 fn all_fresh(places: &[u16]) -> bool
     ensures { result ≡ every (fresh places.now) (length places.now) 0 }
 {
-    let mut k: usize = 0;
-    while k < places.len() {
-        if !is_fresh(places, k) {
+    for (k, place) in places.iter().enumerate() {
+        if places[..k].contains(place) {
             return false;
         }
-        k += 1;
     }
     true
 }
 
-fn all_direct(places: &[u16], addrs: &[u64], lens: &[u32], flags: &[u16]) -> bool
-    requires { SameLength (listed places.now addrs.now lens.now flags.now) }
-    ensures { result ≡ every (direct (listed places.now addrs.now lens.now flags.now)) (length places.now) 0 }
-{
-    let mut k: usize = 0;
-    while k < places.len() {
-        if link(places, addrs, lens, flags, k).refers_to_indirect_table() {
-            return false;
-        }
-        k += 1;
-    }
-    true
-}
-
-fn sum_fits(lens: &[u32]) -> bool
-    ensures { result ≡ sum_fits (sums lens.now (length lens.now) 0) }
+// The sum of lengths, where it has 32 bits.
+fn total(lens: &[u32]) -> Option<u32>
+    ensures { SomeIff result (sum lens.now < 2 ^ 32) (sum lens.now) }
 {
     let mut sum: u32 = 0;
-    let mut k: usize = 0;
-    while k < lens.len() {
-        let len = lens[k];
-        if u32::MAX - sum < len {
-            return false;
-        }
-        sum += len;
-        k += 1;
+    for len in lens {
+        sum = sum.checked_add(*len)?;
     }
-    true
+    Some(sum)
 }
 
 fn can_store(regions: &[u64], size: usize, desc_table: u64, places: &[u16]) -> bool
     ensures { result ≡ every (can_store regions.now size desc_table places.now) (length places.now) 0 }
 {
-    let mut k: usize = 0;
-    while k < places.len() {
-        if !memory::can_write(
+    places.iter().all(|place| {
+        memory::can_write(
             regions,
             size,
             desc_table,
-            desc::VIRTQ_DESCRIPTOR_SIZE * (places[k] as u32),
+            desc::VIRTQ_DESCRIPTOR_SIZE * (*place as u32),
             desc::VIRTQ_DESCRIPTOR_SIZE,
-        ) {
-            return false;
-        }
-        k += 1;
-    }
-    true
+        )
+    })
 }
 
-// ---- the writes
+impl<'a> List<'a> {
+    ghost use Rattle.chain.specs.ListOf.{list_of};
 
-fn store(
-    regions: &[u64],
-    mem: &mut [u8],
-    desc_table: u64,
-    places: &[u16],
-    addrs: &[u64],
-    lens: &[u32],
-    flags: &[u16],
-)
-    requires { SameLength (listed places.now addrs.now lens.now flags.now) }
-    ensures { mem.new ≡ stored regions.now desc_table (listed places.now addrs.now lens.now flags.now) (length places.now) 0 mem.old }
-{
-    let mut k: usize = 0;
-    while k < places.len() {
-        let d = link(places, addrs, lens, flags, k);
-        desc::write_descriptor(regions, mem, desc_table, places[k], d);
-        k += 1;
+    // None where there are not as many of each.
+    fn new(
+        places: &'a [u16],
+        addrs: &'a [u64],
+        lens: &'a [u32],
+        flags: &'a [u16],
+    ) -> Option<List<'a>>
+        ensures { MatchOption result (¬ SameLength (listed places.now addrs.now lens.now flags.now)) (λ l. list_of l ≡ listed places.now addrs.now lens.now flags.now) }
+    {
+        let n = places.len();
+        if addrs.len() == n && lens.len() == n && flags.len() == n {
+            Some(List {
+                places,
+                addrs,
+                lens,
+                flags,
+            })
+        } else {
+            None
+        }
+    }
+
+    // The k-th descriptor as it is stored: with NEXT and the next place if another follows, without if not.
+    #[tactic(auto, using(crate::specs::Laying::link_last), unfolding(crate::specs::Links::link))]
+    fn link(self, k: usize) -> Descriptor
+        requires { k < length self.places.now }
+        ensures { result ≡ link (list_of self.entry) k }
+    {
+        let next = self.places.get(k + 1).copied();
+        Descriptor {
+            addr: self.addrs[k],
+            len: self.lens[k],
+            flags: link_flags(self.flags[k], next.is_some()),
+            next: next.unwrap_or(0),
+        }
+    }
+
+    #[tactic(auto, unfolding(crate::specs::Links::counted))]
+    fn counted(self, queue_size: u16) -> bool
+        ensures { result ≡ counted queue_size (list_of self.entry) }
+    {
+        !self.places.is_empty() && self.places.len() <= queue_size as usize
+    }
+
+    fn all_direct(self) -> bool
+        ensures { result ≡ every (direct (list_of self.entry)) (length self.entry.places.now) 0 }
+    {
+        // By index: link looks at the place after its own too.
+        for k in 0..self.places.len() {
+            if self.link(k).refers_to_indirect_table() {
+                return false;
+            }
+        }
+        true
+    }
+
+    fn sum_fits(self) -> bool
+        ensures { result ≡ leb (total (links (list_of self.entry))) sum_max }
+    {
+        total(self.lens).is_some()
+    }
+
+    // Every test there is, in the order of the errors.
+    #[tactic(auto, unfolding(crate::specs::Links::lay_of))]
+    fn check(
+        self,
+        regions: &[u64],
+        size: usize,
+        desc_table: u64,
+        queue_size: u16,
+    ) -> Result<(), LayError>
+        ensures { result ≡ lay_of regions.now size desc_table queue_size (list_of self.entry) }
+    {
+        if !self.counted(queue_size) {
+            return Err(LayError::BadCount);
+        }
+        if !all_below(queue_size, self.places) {
+            return Err(LayError::BadPlace);
+        }
+        if !all_fresh(self.places) {
+            return Err(LayError::SamePlace);
+        }
+        if !self.all_direct() {
+            return Err(LayError::Indirect);
+        }
+        if !self.sum_fits() {
+            return Err(LayError::TooLong);
+        }
+        if !can_store(regions, size, desc_table, self.places) {
+            return Err(LayError::Unmapped);
+        }
+        Ok(())
+    }
+
+    fn store(self, regions: &[u64], mem: &mut [u8], desc_table: u64)
+        ensures { mem.new ≡ stored regions.now desc_table (list_of self.entry) (length self.entry.places.now) 0 mem.old }
+    {
+        // By index: link looks at the place after its own too.
+        for k in 0..self.places.len() {
+            // check has seen to it that each can be stored.
+            desc::write_descriptor(regions, mem, desc_table, self.places[k], self.link(k));
+        }
     }
 }
 
 // Lays a list of descriptors into the table of queue_size descriptors at desc_table, each at its place, linked by NEXT; the flags
-// are as given but for NEXT. From the first place on the walks then yield the list.
+// are as given but for NEXT. From the first place on the walks then yield the list. The list is four slices, since a caller may lend
+// them of unequal lengths and is then refused (lay_demo prints it); inside they are one List.
+#[tactic(auto, using(crate::specs::Laying::lay_uneven, crate::specs::Laying::lay_refused, crate::specs::Laying::lay_done))]
 pub fn lay_chain(
     regions: &[u64],
     mem: &mut [u8],
@@ -198,27 +206,13 @@ pub fn lay_chain(
     addrs: &[u64],
     lens: &[u32],
     flags: &[u16],
-) -> Laid
+) -> Result<(), LayError>
     ensures { LaidDown regions.now mem.old desc_table queue_size (listed places.now addrs.now lens.now flags.now) result mem.new }
 {
-    if !counted(queue_size, places, addrs, lens, flags) {
-        return Laid::BadCount;
-    }
-    if !all_below(queue_size, places) {
-        return Laid::BadPlace;
-    }
-    if !all_fresh(places) {
-        return Laid::SamePlace;
-    }
-    if !all_direct(places, addrs, lens, flags) {
-        return Laid::Indirect;
-    }
-    if !sum_fits(lens) {
-        return Laid::TooLong;
-    }
-    if !can_store(regions, mem.len(), desc_table, places) {
-        return Laid::Unmapped;
-    }
-    store(regions, mem, desc_table, places, addrs, lens, flags);
-    Laid::Done
+    let Some(list) = List::new(places, addrs, lens, flags) else {
+        return Err(LayError::BadCount);
+    };
+    list.check(regions, mem.len(), desc_table, queue_size)?;
+    list.store(regions, mem, desc_table);
+    Ok(())
 }

@@ -3,136 +3,141 @@
 // descriptors at guest address 0. The replay language has no command for this; scripts show the rest of what a chain does.
 #![tactic(auto)]
 
-ghost use Rattle.std.specs.Prelude.{◌≡◌, ◌≤◌, length};
+ghost use Rattle.std.specs.Prelude.{◌≡◌, length};
 ghost use Rattle.chain.specs.Steps.{chain_at, walk_of};
 
-use chain::lay::Laid;
-use chain::{DescriptorChain, Step};
-use std::io;
+use chain::lay::LayError;
+use chain::{DescriptorChain, lay};
+use std::{fmt, io};
 
-// How many descriptors the chain from head on has.
-fn count(regions: &[u64], mem: &[u8], head: u16) -> u16
-    ensures { result ≡ length (walk_of regions.now mem.now (chain_at 0 8 head)) }
-{
-    let mut c = DescriptorChain::new(0, 8, head);
-    let mut n: u16 = 0;
-    loop {
-        match c.next(regions, mem) {
-            Step::Next(_, rest) => {
-                c = rest;
-                n += 1;
-            }
-            Step::End => {
-                break;
-            }
+// A guest's memory, and the table that says where it lies.
+#[derive(Drop)]
+struct Guest {
+    regions: [u64; 3],
+    mem: [u8; 256],
+}
+
+// Two descriptors to lay into a table of 8 at guest address table: their places and lens, and the flags of the second.
+#[derive(Clone, Copy)]
+struct Two {
+    table: u64,
+    places: [u16; 2],
+    lens: [u32; 2],
+    flags: u16,
+}
+
+impl Guest {
+    // How many descriptors the chain from head on has.
+    fn count(&self, head: u16) -> u16
+        ensures { result ≡ length (walk_of self.now.regions self.now.mem (chain_at 0 8 head)) }
+    {
+        let mut c = DescriptorChain::new(0, 8, head);
+        let mut n: u16 = 0;
+        while let Some((_, rest)) = c.next(&self.regions, &self.mem) {
+            c = rest;
+            n += 1;
         }
+        n
     }
-    n
+
+    fn lay(&mut self, two: Two) -> Laid {
+        Laid(lay::lay_chain(
+            &self.regions,
+            &mut self.mem,
+            two.table,
+            8,
+            &two.places,
+            &[4096, 8192],
+            &two.lens,
+            &[0, two.flags],
+        ))
+    }
+
+    // Three lengths for two places.
+    fn lay_uneven(&mut self) -> Laid {
+        Laid(lay::lay_chain(
+            &self.regions,
+            &mut self.mem,
+            0,
+            8,
+            &[6, 2],
+            &[4096, 8192],
+            &[5, 7, 9],
+            &[0, 2],
+        ))
+    }
 }
 
-fn say(rt: &impl Print, text: &str, n: u16) -> io::Result<()> {
-    println!(rt; "{text}{n}")
-}
+// What laying a chain answered, in words.
+#[derive(Drop)]
+struct Laid(Result<(), LayError>);
 
-fn say_laid(rt: &impl Print, text: &str, laid: Laid) -> io::Result<()> {
-    let word = match laid {
-        Laid::Done => "laid",
-        Laid::BadCount => "refused, count",
-        Laid::BadPlace => "refused, place beyond the table",
-        Laid::SamePlace => "refused, place named twice",
-        Laid::Indirect => "refused, indirect",
-        Laid::TooLong => "refused, sum of lengths",
-        Laid::Unmapped => "refused, memory",
-    };
-    println!(rt; "{text}{word}")
-}
-
-// Two descriptors at the places a and b, in a table of 8 descriptors at guest address table.
-fn lay_two(
-    regions: &[u64],
-    mem: &mut [u8],
-    table: u64,
-    a: u16,
-    b: u16,
-    x: u32,
-    y: u32,
-    g: u16,
-) -> Laid {
-    let places = [a, b];
-    let addrs = [4096u64, 8192];
-    let lens = [x, y];
-    let flags = [0u16, g];
-    chain::lay::lay_chain(regions, mem, table, 8, &places, &addrs, &lens, &flags)
-}
-
-fn lay(
-    rt: &impl Print,
-    text: &str,
-    regions: &[u64],
-    mem: &mut [u8],
-    table: u64,
-    a: u16,
-    b: u16,
-    x: u32,
-    y: u32,
-    g: u16,
-) -> io::Result<()> {
-    say_laid(rt, text, lay_two(regions, mem, table, a, b, x, y, g))
-}
-
-fn lay_uneven(rt: &impl Print, text: &str, regions: &[u64], mem: &mut [u8]) -> io::Result<()> {
-    let places = [6u16, 2];
-    let addrs = [4096u64, 8192];
-    let lens = [5u32, 7, 9];
-    let flags = [0u16, 2];
-    let laid = chain::lay::lay_chain(regions, mem, 0, 8, &places, &addrs, &lens, &flags);
-    say_laid(rt, text, laid)
-}
-
-fn misplaced(rt: &impl Print, regions: &[u64], mem: &mut [u8]) -> io::Result<()> {
-    lay_uneven(rt, "three lengths for two places: ", regions, mem)?;
-    lay(rt, "a place of 8: ", regions, mem, 0, 6, 8, 5, 7, 2)?;
-    lay(rt, "place 6 twice: ", regions, mem, 0, 6, 6, 5, 7, 2)
-}
-
-fn unlawful(rt: &impl Print, regions: &[u64], mem: &mut [u8]) -> io::Result<()> {
-    lay(rt, "flag 4: ", regions, mem, 0, 6, 2, 5, 7, 4)?;
-    lay(
-        rt,
-        "lens 0xffffffff and 1: ",
-        regions,
-        mem,
-        0,
-        6,
-        2,
-        0xffffffff,
-        1,
-        0,
-    )?;
-    lay(rt, "a table at 240: ", regions, mem, 240, 0, 1, 5, 7, 2)
+impl fmt::Display for Laid {
+    fn fmt<W: fmt::Write>(&self, f: &mut fmt::Formatter<W>) -> fmt::Result {
+        f.write_str(match self.0 {
+            Ok(()) => "laid",
+            Err(LayError::BadCount) => "refused, count",
+            Err(LayError::BadPlace) => "refused, place beyond the table",
+            Err(LayError::SamePlace) => "refused, place named twice",
+            Err(LayError::Indirect) => "refused, indirect",
+            Err(LayError::TooLong) => "refused, sum of lengths",
+            Err(LayError::Unmapped) => "refused, memory",
+        })
+    }
 }
 
 fn main(rt: HostRuntime) -> io::Result<()> {
-    let regions = [0u64, 256, 0];
-    let mut mem = [0u8; 256];
-    lay(
-        &rt,
-        "lens 5 and 7 at places 6 and 2, the second writable: ",
-        &regions,
-        &mut mem,
-        0,
-        6,
-        2,
-        5,
-        7,
-        2,
+    let mut guest = Guest {
+        regions: [0, 256, 0],
+        mem: [0; 256],
+    };
+    let good = Two {
+        table: 0,
+        places: [6, 2],
+        lens: [5, 7],
+        flags: 2,
+    };
+    println!(&rt;
+        "lens 5 and 7 at places 6 and 2, the second writable: {}",
+        guest.lay(good)
     )?;
-    say(&rt, "  descriptors from 6 on: ", count(&regions, &mem, 6))?;
-    misplaced(&rt, &regions, &mut mem)?;
-    unlawful(&rt, &regions, &mut mem)?;
-    say(
-        &rt,
-        "and still descriptors from 6 on: ",
-        count(&regions, &mem, 6),
-    )
+    println!(&rt; "  descriptors from 6 on: {}", guest.count(6))?;
+    println!(&rt; "three lengths for two places: {}", guest.lay_uneven())?;
+    let refused = [
+        (
+            "a place of 8",
+            Two {
+                places: [6, 8],
+                ..good
+            },
+        ),
+        (
+            "place 6 twice",
+            Two {
+                places: [6, 6],
+                ..good
+            },
+        ),
+        ("flag 4", Two { flags: 4, ..good }),
+        (
+            "lens 0xffffffff and 1",
+            Two {
+                lens: [0xffffffff, 1],
+                flags: 0,
+                ..good
+            },
+        ),
+        (
+            "a table at 240",
+            Two {
+                table: 240,
+                places: [0, 1],
+                ..good
+            },
+        ),
+    ];
+    for (text, two) in refused {
+        println!(&rt; "{text}: {}", guest.lay(two))?;
+    }
+    println!(&rt; "and still descriptors from 6 on: {}", guest.count(6))
 }

@@ -1,11 +1,10 @@
 -- SPDX-License-Identifier: Apache-2.0 AND BSD-3-Clause
 -- What holds after every run: the queue's positions are what the books say, and each head that was handed out was the entry of its number.
-use Rattle.std.specs.Prelude.{ℕ, suc, ◌+◌, ◌%◌, ◌≤◌, ◌≡◌, Bool, true, false, List, [], ◌∷◌, ◌++◌, length, eqb}
+use Rattle.std.specs.Prelude.{ℕ, suc, ◌+◌, ◌%◌, ◌≤◌, ◌≡◌, Bool, true, false, List, [], ◌∷◌, ◌++◌, length, eqb, Some}
 use native.Mathlib.Omega.{arith}
 use Rattle.std.proofs.Math.Path.{refl}
 use Rattle.std.proofs.Common.{sym, ◌∙◌, true≢false, eqb-true}
 use Rattle.regions.specs.Table.{Table}
-use Rattle.memory.specs.declared.Got2.TheVariants.{Value}
 use Rattle.queue.specs.Wrap.{sub16, sub16-add}
 use Rattle.queue.specs.Config.{reset_of}
 use Rattle.queue.specs.Avail.{begin_of, back_of, entry_read}
@@ -17,7 +16,7 @@ use Rattle.queue.specs.declared.Error.TheVariants.{GuestMemory}
 use Rattle.ledger.specs.declared.Call.{Call}
 use Rattle.ledger.specs.declared.Call.TheVariants.{Set, SetNextAvail, SetNextUsed, Reset, Valid, Begin, NextHead, Pop, GoBack, Put, Stop, Ask, Question}
 use Rattle.ledger.specs.declared.Answer.TheVariants.{Took, Yes, Refused}
-use Rattle.ledger.specs.World.{World, State, UsedBook, AvailBook, Take, Query, Reached, begins, guest, device, step_of, answer, on_taken, on_placed, on_answered, yes_no, note_used, note_avail, note_query, by_put, by_take, by_question, asked}
+use Rattle.ledger.specs.World.{World, State, UsedBook, AvailBook, Take, Query, Reached, begins, guest, device, step_of, answer, on_taken, on_configured, on_answered, yes_no, note_used, note_avail, note_query, by_put, by_take, by_question, asked}
 use Rattle.ledger.specs.Calls.{set-kept, take_elim, popped_elim, begun-queue, stopped-queue, asked-queue}
 
 -- ---- the used ring's numbers are what the book says
@@ -41,9 +40,9 @@ asked_by b true false z = refl
 asked_by b false c z = absurd (true≢false (sym z))
 
 module _ (t : Table) (q : Queue) (p : AvailIter) (m : List ℕ) (b : UsedBook) (h : UsedAgrees q b) where
-  on_put : (head n : ℕ) → UsedAgrees (on_placed q p (put_of t q m head n)).queue (by_put b head n (on_placed q p (put_of t q m head n)).answer)
+  on_put : (head n : ℕ) → UsedAgrees (on_configured q p (put_of t q m head n)).queue (by_put b head n (on_configured q p (put_of t q m head n)).answer)
   on_put head n =
-      put_elim t q m head n (λ r k. UsedAgrees (on_placed q p r).queue (by_put b head n (on_placed q p r).answer))
+      put_elim t q m head n (λ r k. UsedAgrees (on_configured q p r).queue (by_put b head n (on_configured q p r).answer))
       (λ x. h) (λ x y. h)
       (λ x y z. record {
         count = one_more q.next_used b.from (length b.puts) h.count;
@@ -98,7 +97,7 @@ pub record Right (t : Table) (w : World) (start n : ℕ) (k : Take) : Type 0 whe
   pub reached : Reached t w state
   pub is : state.world ≡ k.before
   pub at : (k.before.queue.next_avail + k.backs) % 65536 ≡ (start + n) % 65536
-  pub bytes : entry_read t k.before.queue k.before.mem ≡ Value k.head
+  pub bytes : entry_read t k.before.queue k.before.mem ≡ Some k.head
 
 abbrev pub Rights : Table → World → ℕ → List Take → Type 0
 Rights t w start [] = Unit {0}
@@ -118,7 +117,7 @@ module _ (t : Table) (w : World) (s : State) (r : Reached t w s) (h : AvailAgree
   stayed : (x : Queue) → x.next_avail ≡ s.world.queue.next_avail → AvailAgrees t w x s.avail
   stayed x e = record { at = rw e h.at; each = h.each }
 
-  on_took : (head : ℕ) → entry_read t s.world.queue s.world.mem ≡ Value head → (x : Queue) → x.next_avail ≡ (s.world.queue.next_avail + 1) % 65536
+  on_took : (head : ℕ) → entry_read t s.world.queue s.world.mem ≡ Some head → (x : Queue) → x.next_avail ≡ (s.world.queue.next_avail + 1) % 65536
       → AvailAgrees t w x (by_take s.avail s.world (Took head))
   on_took head e x f =
       record {
@@ -148,7 +147,7 @@ module _ (t : Table) (w : World) (s : State) (r : Reached t w s) (h : AvailAgree
         each = h.each;
       }
   avail_step (Put head n) =
-      put_elim t s.world.queue s.world.mem head n (λ x k. AvailAgrees t w (on_placed s.world.queue s.world.pass x).queue s.avail)
+      put_elim t s.world.queue s.world.mem head n (λ x k. AvailAgrees t w (on_configured s.world.queue s.world.pass x).queue s.avail)
       (λ x. h) (λ x y. h) (λ x y z. stayed _ refl)
   avail_step Stop = rw (stopped-queue s.world.queue s.world.pass (stop_of t s.world.queue s.world.mem)) h
   avail_step Ask = rw (asked-queue s.world.queue s.world.pass (ask_of t s.world.queue s.world.mem)) h

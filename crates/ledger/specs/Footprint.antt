@@ -1,7 +1,7 @@
 -- SPDX-License-Identifier: Apache-2.0 AND BSD-3-Clause
 -- What a call can see: its answer, and the queue that it leaves, are settled by the few fields that it touches. So isolation holds of whole runs,
 -- and the fields that a run touches can be counted.
-use Rattle.std.specs.Prelude.{ℕ, suc, ◌+◌, ◌<◌, ◌≤◌, ◌≡◌, Bool, List, [], ◌∷◌, length, ltb}
+use Rattle.std.specs.Prelude.{ℕ, suc, ◌+◌, ◌<◌, ◌≤◌, ◌≡◌, Bool, List, [], ◌∷◌, length, ltb, Result, Ok, Err, Option, Some, None}
 use Rattle.std.proofs.Common.{arith, ◌∙◌}
 use Rattle.std.proofs.Math.Path.{refl, sym, ap}
 use Rattle.std.proofs.Math.Bool.{true, false}
@@ -9,10 +9,8 @@ use Rattle.std.proofs.Math.ListN.{get_or}
 use Rattle.wire.specs.Number.{bytes}
 use Rattle.regions.specs.Table.{pick, Table, Maps}
 use Rattle.regions.specs.Spots.{spots, Mapped, spots_mapped, length-spots}
-use Rattle.regions.specs.declared.Place.{Place}
-use Rattle.regions.specs.declared.Place.TheVariants.{At, Nowhere}
 use Rattle.memory.specs.Cells.{fetch, store, store_agree}
-use Rattle.memory.specs.Access.{writable, bytes_at, read2_of, after, after-length, Agree}
+use Rattle.memory.specs.Access.{writable, bytes_at, read_of, read2_of, after, after-length, Agree}
 use Rattle.desc.specs.Desc.{used_bytes}
 use Rattle.desc.specs.Layout.{avail_idx_addr}
 use Rattle.queue.specs.Wrap.{next16}
@@ -21,15 +19,13 @@ use Rattle.queue.specs.Used.{put_of, put_mem, room, entry_addr, idx_addr, with_e
 use Rattle.queue.specs.Notify.{stop_of, stop_mem, ask_of, ask_mem, ask_addr, ask_value, flags_addr, question_of, answered_on, used_event_read}
 use Rattle.queue.specs.declared.Queue.{Queue}
 use Rattle.queue.specs.declared.AvailIter.{AvailIter}
-use Rattle.queue.specs.declared.Begun.{Begun}
-use Rattle.queue.specs.declared.Begun.TheVariants.{Pass, NotBegun}
-use Rattle.queue.specs.declared.Answered.TheVariants.{Needed}
 use Rattle.ledger.specs.declared.Call.{Call}
 use Rattle.ledger.specs.declared.Call.TheVariants.{Set, SetNextAvail, SetNextUsed, Reset, Valid, Begin, NextHead, Pop, GoBack, Put, Stop, Ask, Question}
 use Rattle.ledger.specs.declared.Answer.{Answer}
 use Rattle.ledger.specs.declared.Step.{Step}
-use Rattle.ledger.specs.World.{World, Event, Guest, Device, Field, UsedEvent, step_of, step_mem, answer, after_call, after_guest, touched, field_addr, field_size, on_begun, on_taken, on_placed, on_stopped, on_asked, on_answered}
+use Rattle.ledger.specs.World.{World, Event, Guest, Device, Field, UsedEvent, step_of, step_mem, answer, after_call, after_guest, touched, field_addr, field_size, on_begun, on_taken, on_configured, on_stopped, on_asked, on_answered}
 use Rattle.ledger.specs.Calls.{step-length}
+use Rattle.queue.specs.declared.Error.{Error}
 
 -- two memories hold the same bytes at the places of n bytes from guest address a on; at those of some fields
 abbrev pub SameAt : Table → List ℕ → List ℕ → ℕ → ℕ → Type 0
@@ -40,12 +36,12 @@ SameIn t m k q [] = Unit {0}
 SameIn t m k q (f ∷ fs) = SameAt t m k (field_addr q f) (field_size f) × SameIn t m k q fs
 
 -- ---- one access
-fetch_same : (t : Table) (size a : ℕ) (ps : List Place) (m k : List ℕ) → Mapped t size a ps
+fetch_same : (t : Table) (size a : ℕ) (ps : List (Option ℕ)) (m k : List ℕ) → Mapped t size a ps
     → ((x i : ℕ) → a ≤ x → x < a + length ps → Maps t size x i → get_or m i 0 ≡ get_or k i 0) → fetch m ps ≡ fetch k ps
 fetch_same t size a [] m k h f = refl
-fetch_same t size a (At i ∷ ps) m k h f =
+fetch_same t size a (Some i ∷ ps) m k h f =
     cc (f a i (omega arith) (omega arith) h.0, fetch_same t size (suc a) ps m k h.1 (λ x j l u p. f x j (omega arith) (omega arith) p))
-fetch_same t size a (Nowhere ∷ ps) m k h f = cc (fetch_same t size (suc a) ps m k h (λ x j l u p. f x j (omega arith) (omega arith) p))
+fetch_same t size a (None ∷ ps) m k h f = cc (fetch_same t size (suc a) ps m k h (λ x j l u p. f x j (omega arith) (omega arith) p))
 
 module _ (t : Table) (m k : List ℕ) (e : length m ≡ length k) where
   bytes_same : (a n : ℕ) → SameAt t m k a n → bytes_at t m a n ≡ bytes_at t k a n
@@ -54,7 +50,7 @@ module _ (t : Table) (m k : List ℕ) (e : length m ≡ length k) where
       rw (← e, fetch_same t (length m) a (spots t (length m) a n) m k (spots_mapped t (length m) a n) (λ x i l u p. h x i l (rw length-spots at u) p))
 
   read2_same : (a : ℕ) → SameAt t m k a 2 → read2_of t m a ≡ read2_of t k a
-  unfolding read2_of
+  unfolding read_of
   read2_same a h = rw (e, bytes_same a 2 h)
 
   module _ (i : ℕ) (h : get_or m i 0 ≡ get_or k i 0) where
@@ -86,9 +82,9 @@ module _ (t : Table) (q : Queue) (p : AvailIter) (m k : List ℕ) (e : length m 
   unfolding pop_of
   pop_same h f = ap (pop_on t q m) (begin_same h) ∙ on' (begin_of t q k)
     where
-      on' : (b : Begun) → pop_on t q m b ≡ pop_on t q k b
-      on' (Pass r) = head_same r f
-      on' (NotBegun x) = refl
+      on' : (b : Result AvailIter Error) → pop_on t q m b ≡ pop_on t q k b
+      on' (Ok r) = head_same r f
+      on' (Err x) = refl
 
   put_same : (head n : ℕ) → put_of t q m head n ≡ put_of t q k head n
   unfolding put_of
@@ -138,7 +134,7 @@ module _ (t : Table) (q : Queue) (p : AvailIter) (m k : List ℕ) (e : length m 
   unfolding question_of
   question_same h = on' q.event_idx_enabled h
     where
-      on' : (b : Bool) → SameIn t m k q (pick b (UsedEvent ∷ []) []) → pick b (answered_on q (used_event_read t q m)) (Needed true q) ≡ pick b (answered_on q (used_event_read t q k)) (Needed true q)
+      on' : (b : Bool) → SameIn t m k q (pick b (UsedEvent ∷ []) []) → pick b (answered_on q (used_event_read t q m)) (Ok (true, q)) ≡ pick b (answered_on q (used_event_read t q k)) (Ok (true, q))
       on' true s = ap (answered_on q) (read2_same t m k e (field_addr q UsedEvent) s.0)
       on' false s = refl
 
@@ -147,7 +143,7 @@ module _ (t : Table) (q : Queue) (p : AvailIter) (m k : List ℕ) (e : length m 
   sees Begin s = record { step = ap (on_begun q p) (begin_same (read2_same t m k e _ s.0)); mem = λ i h. h }
   sees NextHead s = record { step = ap (on_taken q p) (head_same p (read2_same t m k e _ s.0)); mem = λ i h. h }
   sees Pop s = record { step = ap (on_taken q p) (pop_same (read2_same t m k e _ s.0) (read2_same t m k e _ s.1.0)); mem = λ i h. h }
-  sees (Put head n) s = record { step = ap (on_placed q p) (put_same head n); mem = λ i h. put_mem_same head n i h }
+  sees (Put head n) s = record { step = ap (on_configured q p) (put_same head n); mem = λ i h. put_mem_same head n i h }
   sees Stop s = record { step = ap (on_stopped q p) stop_same; mem = λ i h. stop_mem_same i h }
   sees Ask s = record { step = ap (on_asked q p) (ask_same s.1.0); mem = λ i h. ask_mem_same i h }
   sees Question s = record { step = ap (on_answered q p) (question_same s); mem = λ i h. h }

@@ -21,7 +21,7 @@ use Rattle.ledger.specs.declared.Call.{Call}
 use Rattle.ledger.specs.declared.Call.TheVariants.{Set, SetNextAvail, SetNextUsed, Reset, Valid, Begin, NextHead, Pop, GoBack, Put, Stop, Ask, Question}
 use Rattle.ledger.specs.declared.Answer.{Answer}
 use Rattle.ledger.specs.declared.Answer.TheVariants.{Done, Took, NoEntry, Yes, No, Refused}
-use Rattle.ledger.specs.World.{World, State, UsedBook, Given, given, Reached, begins, guest, device, step_of, step_mem, answer, first, rewritten, called, on_placed, note_used, by_put, by_question, next_put}
+use Rattle.ledger.specs.World.{World, State, UsedBook, Given, given, Reached, begins, guest, device, step_of, step_mem, answer, first, rewritten, called, on_configured, note_used, by_put, by_question, next_put}
 use Rattle.ledger.specs.Number.{window, same_place, power_divides, power_some}
 use Rattle.ledger.specs.Calls.{proper_always}
 use Rattle.ledger.specs.Always.{UsedAgrees, used_always}
@@ -121,7 +121,7 @@ module _ (t : Table) (g : Good t) (q : Queue) (p : AvailIter) (m : List ℕ) (b 
     pub entry-step : (c : Call) → next_put (note_used b q c (step_of t q p m c).answer) ≤ n + q.size → Stays (step_mem t q m c)
     unfolding step_of step_mem note_used
     entry-step (Put head x) l =
-        put_elim t q m head x (λ r k. next_put (by_put b head x (on_placed q p r).answer) ≤ n + q.size → Stays k) (λ h u. refl) (λ h e u. refl)
+        put_elim t q m head x (λ r k. next_put (by_put b head x (on_configured q p r).answer) ≤ n + q.size → Stays k) (λ h u. refl) (λ h e u. refl)
         (λ h e f u. done_old head x n old (omega arith)) l
     entry-step Stop l = stop_entry n
     entry-step Ask l = ask_entry n
@@ -172,7 +172,7 @@ module _ (t : Table) (g : Good t) (q : Queue) (p : AvailIter) (m : List ℕ) (b 
     ring_step : (c : Call) → Ring (step_mem t q m c) (note_used b q c (step_of t q p m c).answer)
     unfolding step_of step_mem note_used
     ring_step (Put head n) =
-        put_elim t q m head n (λ r k. Ring k (by_put b head n (on_placed q p r).answer)) (λ x. h) (λ x y. h)
+        put_elim t q m head n (λ r k. Ring k (by_put b head n (on_configured q p r).answer)) (λ x. h) (λ x y. h)
         (λ x y z. record { idx = λ l. done_idx head n z ∙ ap (λ (k : ℕ). bytes 2 (k % 65536)) (omega arith); entries = entry_of_lem head n y })
     ring_step Stop = kept t q.used_ring q.size m (stop_mem t q m) b.from b.puts stop_idx stop_entry h
     ring_step Ask = kept t q.used_ring q.size m (ask_mem t q m) b.from b.puts ask_idx ask_entry h
@@ -207,10 +207,10 @@ module _ (t : Table) (g : Good t) (s : State) (h : UsedAgrees s.world.queue s.us
   unfolding step_of step_mem note_used
   stands' =
       put_elim t s.world.queue s.world.mem head n
-      (λ r k. (on_placed s.world.queue s.world.pass r).answer ≡ Done
-      → ((by_put s.used head n (on_placed s.world.queue s.world.pass r).answer).puts ≡ given head n ∷ s.used.puts)
+      (λ r k. (on_configured s.world.queue s.world.pass r).answer ≡ Done
+      → ((by_put s.used head n (on_configured s.world.queue s.world.pass r).answer).puts ≡ given head n ∷ s.used.puts)
       × (bytes_at t k (used_entry_addr s.world.queue.used_ring s.world.queue.size (next_put s.used)) 8 ≡ used_bytes head n)
-      × (bytes_at t k (used_idx_addr s.world.queue.used_ring) 2 ≡ bytes 2 (next_put (by_put s.used head n (on_placed s.world.queue s.world.pass r).answer) % 65536)))
+      × (bytes_at t k (used_idx_addr s.world.queue.used_ring) 2 ≡ bytes 2 (next_put (by_put s.used head n (on_configured s.world.queue s.world.pass r).answer) % 65536)))
       (λ x e. absurd (let z : ◌≡◌ {A = ℕ} 0 1 = cc in omega arith))
       (λ x y e. absurd (let z : ◌≡◌ {A = ℕ} 0 1 = cc in omega arith))
       (λ x y z e. (

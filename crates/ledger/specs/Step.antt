@@ -1,7 +1,7 @@
 -- SPDX-License-Identifier: Apache-2.0 AND BSD-3-Clause
 -- The tie to the code: what the function that makes a call answers and leaves is one step of the world, and which call a number chooses.
-use Rattle.std.specs.Prelude.{ℕ, ◌<◌, ◌≤◌, ◌≡◌, Bool, List, length, eqb, ltb}
-use Rattle.std.proofs.Math.Path.{refl, ap}
+use Rattle.std.specs.Prelude.{ℕ, ◌<◌, ◌≤◌, ◌≡◌, refl, Bool, List, length, eqb, ltb, Option, Result, Ok, Err}
+use Rattle.std.proofs.Math.Path.{ap}
 use Rattle.std.proofs.Common.{◌∙◌}
 use borrow.Author.Tests.{ne_eqb, lt-ltb, le-ltb}
 use Rattle.regions.specs.Table.{pick, Table}
@@ -12,27 +12,26 @@ use Rattle.queue.specs.Used as used
 use Rattle.queue.specs.Notify as notify
 use Rattle.queue.specs.declared.Queue.{Queue}
 use Rattle.queue.specs.declared.AvailIter.{AvailIter}
-use Rattle.queue.specs.declared.Configured.{Configured}
-use Rattle.queue.specs.declared.Begun.{Begun}
-use Rattle.queue.specs.declared.Taken.{Taken}
-use Rattle.queue.specs.declared.Placed.{Placed}
-use Rattle.queue.specs.declared.Stopped.{Stopped}
-use Rattle.queue.specs.declared.Asked.{Asked}
-use Rattle.queue.specs.declared.Answered.{Answered}
 use Rattle.ledger.specs.declared.Args.{Args}
 use Rattle.ledger.specs.declared.Setting.{Setting}
 use Rattle.ledger.specs.declared.Setting.TheVariants.{Size, DescTable, AvailRing, UsedRing, Ready, EventIdx}
 use Rattle.ledger.specs.declared.Call.{Call}
 use Rattle.ledger.specs.declared.Call.TheVariants.{Set, SetNextAvail, SetNextUsed, Reset, Valid, Begin, NextHead, Pop, GoBack, Put, Stop, Ask, Question}
-use Rattle.ledger.specs.declared.Answer.TheVariants.{Done}
+use Rattle.ledger.specs.declared.Answer.TheVariants.{Done, Refused}
 use Rattle.ledger.specs.declared.Step.{Step}
 use Rattle.ledger.specs.Footprint.{world}
-use Rattle.ledger.specs.World.{World, answer, after_call, step_of, step_mem, step, yes_no, set_of, on_configured, on_begun, on_taken, on_placed, on_stopped, on_asked, on_answered}
+use Rattle.ledger.specs.World.{World, answer, after_call, step_of, step_mem, step, yes_no, set_of, on_configured, on_begun, on_taken, on_stopped, on_asked, on_answered}
+use Rattle.queue.specs.declared.Error.{Error}
 
 -- what a function that makes the call c answers and leaves, from queue q, pass p and memory m
 pub record Stepped (t : Table) (q : Queue) (p : AvailIter) (m : List ℕ) (c : Call) (r : Step) (m' : List ℕ) : Type 0 where
   pub step : r ≡ step_of t q p m c
   pub mem : m' ≡ step_mem t q m c
+
+-- the step of a call that may be refused: a refusal leaves the queue and the pass
+abbrev pub tried : Queue → AvailIter → Result Step Error → Step
+tried q p (Ok s) = s
+tried q p (Err e) = step (Refused e) q p
 
 same_world : {q r : Queue} {p o : AvailIter} {m k : List ℕ} → q ≡ r → p ≡ o → m ≡ k → world q p m ≡ world r o k
 same_world e f h = cc
@@ -70,9 +69,9 @@ call_of op a =
     (pick (eqb op 9) Valid
     (pick (eqb op 10) Begin (ring_call_of op a))))))
 
--- ---- for the proof of `make`: a law for each call
+-- ---- case by case: a law for each call
 module _ (t : Table) (q : Queue) (p : AvailIter) (m : List ℕ) (c : Call) (r : Step) where
-  pub made_set : (s : Setting) → c ≡ Set s → (g : Configured) → g ≡ set_of q s → r ≡ on_configured q p g → Stepped t q p m c r m
+  pub made_set : (s : Setting) → c ≡ Set s → (g : Result Queue Error) → g ≡ set_of q s → r ≡ on_configured q p g → Stepped t q p m c r m
   unfolding step_of step_mem
   made_set s e g h k = rw e (record { step = k ∙ ap (on_configured q p) h; mem = refl })
 
@@ -92,15 +91,15 @@ module _ (t : Table) (q : Queue) (p : AvailIter) (m : List ℕ) (c : Call) (r : 
   unfolding step_of step_mem
   made_valid e b h k = rw e (record { step = k ∙ ap (λ (x : Bool). step (yes_no x) q p) h; mem = refl })
 
-  pub made_begin : c ≡ Begin → (g : Begun) → g ≡ begin_of t q m → r ≡ on_begun q p g → Stepped t q p m c r m
+  pub made_begin : c ≡ Begin → (g : Result AvailIter Error) → g ≡ begin_of t q m → r ≡ on_begun q p g → Stepped t q p m c r m
   unfolding step_of step_mem
   made_begin e g h k = rw e (record { step = k ∙ ap (on_begun q p) h; mem = refl })
 
-  pub made_head : c ≡ NextHead → (g : Taken) → g ≡ head_of t q p m → r ≡ on_taken q p g → Stepped t q p m c r m
+  pub made_head : c ≡ NextHead → (g : Option (ℕ × Queue)) → g ≡ head_of t q p m → r ≡ on_taken q p g → Stepped t q p m c r m
   unfolding step_of step_mem
   made_head e g h k = rw e (record { step = k ∙ ap (on_taken q p) h; mem = refl })
 
-  pub made_pop : c ≡ Pop → (g : Taken) → g ≡ pop_of t q m → r ≡ on_taken q p g → Stepped t q p m c r m
+  pub made_pop : c ≡ Pop → (g : Option (ℕ × Queue)) → g ≡ pop_of t q m → r ≡ on_taken q p g → Stepped t q p m c r m
   unfolding step_of step_mem
   made_pop e g h k = rw e (record { step = k ∙ ap (on_taken q p) h; mem = refl })
 
@@ -108,23 +107,23 @@ module _ (t : Table) (q : Queue) (p : AvailIter) (m : List ℕ) (c : Call) (r : 
   unfolding step_of step_mem
   made_back e x h k = rw e (record { step = k ∙ ap (λ (y : Queue). step Done y p) h; mem = refl })
 
-  pub made_put : (head n : ℕ) → c ≡ Put head n → (g : Placed) (m' : List ℕ) → used.Put t q m head n g m' → r ≡ on_placed q p g → Stepped t q p m c r m'
+  pub made_put : (head n : ℕ) → c ≡ Put head n → (g : Result Queue Error) (m' : List ℕ) → used.Put t q m head n g m' → r ≡ on_configured q p g → Stepped t q p m c r m'
   unfolding step_of step_mem
-  made_put head n e g m' w k = rw e (record { step = k ∙ ap (on_placed q p) w.answer; mem = w.mem })
+  made_put head n e g m' w k = rw e (record { step = k ∙ ap (on_configured q p) w.answer; mem = w.mem })
 
-  pub made_stop : c ≡ Stop → (g : Stopped) (m' : List ℕ) → notify.Stop t q m g m' → r ≡ on_stopped q p g → Stepped t q p m c r m'
+  pub made_stop : c ≡ Stop → (g : Result (Unit {0}) Error) (m' : List ℕ) → notify.Stop t q m g m' → r ≡ on_stopped q p g → Stepped t q p m c r m'
   unfolding step_of step_mem
   made_stop e g m' w k = rw e (record { step = k ∙ ap (on_stopped q p) w.answer; mem = w.mem })
 
-  pub made_ask : c ≡ Ask → (g : Asked) (m' : List ℕ) → notify.Ask t q m g m' → r ≡ on_asked q p g → Stepped t q p m c r m'
+  pub made_ask : c ≡ Ask → (g : Result Bool Error) (m' : List ℕ) → notify.Ask t q m g m' → r ≡ on_asked q p g → Stepped t q p m c r m'
   unfolding step_of step_mem
   made_ask e g m' w k = rw e (record { step = k ∙ ap (on_asked q p) w.answer; mem = w.mem })
 
-  pub made_question : c ≡ Question → (g : Answered) → g ≡ notify.question_of t q m → r ≡ on_answered q p g → Stepped t q p m c r m
+  pub made_question : c ≡ Question → (g : Result (Bool × Queue) Error) → g ≡ notify.question_of t q m → r ≡ on_answered q p g → Stepped t q p m c r m
   unfolding step_of step_mem
   made_question e g h k = rw e (record { step = k ∙ ap (on_answered q p) h; mem = refl })
 
--- ---- for the proofs of `setting_of`, `ring_call_of` and `call_of`: the number that none of the arms names
+-- the number that none of the arms names
 module _ (op : ℕ) (a : Args) where
   pub setting_rest : (op ≡ 0 → ⊥) → (op ≡ 1 → ⊥) → (op ≡ 2 → ⊥) → (op ≡ 3 → ⊥) → (op ≡ 4 → ⊥) → EventIdx a.on ≡ setting_of op a
   unfolding setting_of

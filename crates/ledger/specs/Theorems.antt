@@ -2,13 +2,11 @@
 -- Any interleaving of the device's calls with a guest that rewrites its memory. `Reached t w s`: some list of events leads from the world w to the
 -- state s (World, `run_reached` and `reached_run`). A state has the world and the books, kept from the calls and their answers alone and counted
 -- without wrapping. What each theorem assumes stands in its statement; Witness shows that it can be met, or that it is needed.
-use Rattle.std.specs.Prelude.{ℕ, ◌+◌, ◌*◌, ◌%◌, ◌<◌, ◌≤◌, ◌≡◌, ◌⊎◌, ◌↔◌, true, false, List, ◌∷◌, ◌++◌, length, get_or, ℤ}
+use Rattle.std.specs.Prelude.{ℕ, ◌+◌, ◌*◌, ◌%◌, ◌<◌, ◌≤◌, ◌≡◌, ◌⊎◌, ◌↔◌, true, false, List, ◌∷◌, ◌++◌, length, get_or, ℤ, Option, Some}
 use Rattle.std.proofs.Common.{arith, ◌∙◌}
 use Rattle.std.proofs.Math.IntN.{sub_ℕ}
 use Rattle.regions.specs.Table.{Table, Good}
 use Rattle.memory.specs.Access.{Agree, read2_of}
-use Rattle.memory.specs.declared.Got2.{Got2}
-use Rattle.memory.specs.declared.Got2.TheVariants.{Value}
 use Rattle.queue.specs.Avail.{entry_read}
 use Rattle.queue.specs.Notify.{used_event_read}
 use Rattle.queue.specs.Proper.{Proper}
@@ -36,13 +34,13 @@ use Rattle.ledger.specs.Driver as driver
 -- ---- T3.1: taken once and in order
 
 -- entry number z of the available ring, as it stands in a world: the two bytes at place z modulo the size (2.7.6)
-abbrev pub entry : Table → World → ℤ → Got2
+abbrev pub entry : Table → World → ℤ → Option ℕ
 entry t w z = read2_of t w.mem (w.queue.avail_ring + (4 + 2 * modulo z w.queue.size))
 
 -- The head that was handed out as the n-th (`earlier` came before it), from the last reset or setting of the position on, is the entry with the number
 -- start + n, less the steps back: the two bytes that stood at its place when it was taken.
 pub taken_in_order : {t : Table} {w : World} {s : State} → Reached t w s → Proper w.queue → (later : List Take) (k : Take) (earlier : List Take)
-    → s.avail.takes ≡ later ++ k ∷ earlier → entry t k.before (sub_ℕ (s.avail.start + length earlier) k.backs) ≡ Value k.head
+    → s.avail.takes ≡ later ++ k ∷ earlier → entry t k.before (sub_ℕ (s.avail.start + length earlier) k.backs) ≡ Some k.head
 taken_in_order {t} {w} {s} r p later k earlier e =
     let x = right_of t w s.avail.start later k earlier (rw e at (avail_always r).each) in
     let y : Proper k.before.queue = rw x.is at (proper_always p x.reached) in
@@ -57,7 +55,7 @@ next_available {s = s} r =
 
 -- And the next entry is handed out, if the pass is not at its end: whichever of position and remembered idx is the larger number.
 pub handed_out : (t : Table) (w : World) → Proper w.queue → (w.queue.next_avail ≡ w.pass.last_index → ⊥) → (head : ℕ)
-    → entry_read t w.queue w.mem ≡ Value head → answer t w NextHead ≡ Took head
+    → entry_read t w.queue w.mem ≡ Some head → answer t w NextHead ≡ Took head
 handed_out t w p d head e = calls.handed_out t w (power_some _ p.power) d head e
 
 -- ---- T3.2: the used ring's history is what the device was told
@@ -95,7 +93,7 @@ nothing_else r j = writes_always r j
 -- A question was asked with event index on. With fewer than 65,536 entries put since the last one that was answered so, or since the reset, the answer
 -- was yes if and only if used_event, as it stood in memory then, was the number modulo 65,536 of one of them.
 pub notification : {t : Table} {w : World} {s : State} → Reached t w s → (later : List Query) (x : Query) (earlier : List Query) → s.queries ≡ later ++ x ∷ earlier
-    → x.before.queue.event_idx_enabled ≡ true → (event : ℕ) → used_event_read t x.before.queue x.before.mem ≡ Value event
+    → x.before.queue.event_idx_enabled ≡ true → (event : ℕ) → used_event_read t x.before.queue x.before.mem ≡ Some event
     → x.book.known ≡ true → x.book.since < 65536
     → (x.answer ≡ Yes) ↔ Named (since_number x.book) (next_put x.book) event
 notification {t} {w} {s} r later x earlier e on event read known few =
@@ -110,7 +108,7 @@ notification_off {t} {w} r later x earlier e off =
 
 -- The bound is sharp: with exactly 65,536 the answer was no, although one of them was named.
 pub notification_wraps : {t : Table} {w : World} {s : State} → Reached t w s → (later : List Query) (x : Query) (earlier : List Query) → s.queries ≡ later ++ x ∷ earlier
-    → x.before.queue.event_idx_enabled ≡ true → (event : ℕ) → used_event_read t x.before.queue x.before.mem ≡ Value event
+    → x.before.queue.event_idx_enabled ≡ true → (event : ℕ) → used_event_read t x.before.queue x.before.mem ≡ Some event
     → x.book.known ≡ true → x.book.since ≡ 65536
     → (x.answer ≡ No) × Named (since_number x.book) (next_put x.book) event
 notification_wraps {t} {w} r later x earlier e on event read known many =

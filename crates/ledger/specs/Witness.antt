@@ -1,6 +1,7 @@
 -- SPDX-License-Identifier: Apache-2.0 AND BSD-3-Clause
 -- Each premise of the theorems is met by a value, or shown to be needed by a run in which the conclusion fails without it. Runs are computed.
-use Rattle.std.specs.Prelude.{ℕ, zero, suc, ◌+◌, ◌*◌, ◌%◌, ◌<◌, ◌≡◌, refl, Bool, true, false, List, [], ◌∷◌, ◌++◌, length}
+use Rattle.std.specs.Prelude.{ℕ, zero, suc, ◌+◌, ◌*◌, ◌%◌, ◌<◌, ◌≡◌, refl, Bool, true, false, List, [], ◌∷◌, ◌++◌, length, Result, Ok, Some, Option, None}
+use Rattle.std.specs.Option.{option_or}
 use Rattle.std.proofs.Math.Nat.{mod-one}
 use Rattle.std.proofs.Common.{mod-lt, arith, sym, ◌∙◌, inl, inr, length-append}
 use Rattle.std.proofs.Math.Numerals.{add-one}
@@ -8,13 +9,10 @@ use Rattle.std.proofs.Math.Path.{ap}
 use Rattle.std.proofs.Math.ListN.{get_or-append}
 use Rattle.wire.specs.Number.{number}
 use Rattle.wire.specs.Part.{Apart}
-use Rattle.regions.specs.Table.{Table, Maps, Good, one_good, one_single, single_one, rows, extent, extent-fits, row, spot, spot_maps, maps_spot, place_of, first_of, stretch_of, stretch_in, stretch_r, stretch_r_inv}
-use Rattle.regions.specs.declared.Place.TheVariants.{At}
-use Rattle.regions.specs.declared.Stretch as table
-use Rattle.regions.specs.declared.Stretch.TheVariants.{Run, Nothing}
+use Rattle.regions.specs.Table.{Table, Maps, Good, one_good, one_single, single_one, rows, extent, extent-fits, row, spot, spot_maps, maps_spot, place_of, stretch_of, stretch_in, stretch_r, stretch_r_inv}
+use Rattle.regions.specs.declared.Run.{Run}
 use Rattle.regions.specs.Spots.{covered, spots}
-use Rattle.memory.specs.Access.{readable, writable, bytes_at, after, read2_of, Agree, bytes_apart}
-use Rattle.memory.specs.declared.Got2.TheVariants.{Value}
+use Rattle.memory.specs.Access.{readable, writable, bytes_at, after, read_of, read2_of, Agree, bytes_apart}
 use Rattle.desc.specs.Layout.{used_entry_addr, used_idx_addr, avail_event_addr}
 use Rattle.queue.specs.State.{queue, pass}
 use Rattle.queue.specs.Wrap.{sub16}
@@ -24,18 +22,16 @@ use Rattle.queue.specs.Used.{put_of, put_mem, room, grown, put_done, put-length}
 use Rattle.queue.specs.Notify.{ask_of, ask_mem, question_of, tells, used_event_read}
 use Rattle.queue.specs.Proper.{Proper}
 use Rattle.queue.specs.declared.Queue.{Queue}
-use Rattle.queue.specs.declared.Half.TheVariants.{Given}
-use Rattle.queue.specs.declared.Placed.{Placed}
-use Rattle.queue.specs.declared.Placed.TheVariants.{Added}
 use Rattle.ledger.specs.declared.Setting.TheVariants.{AvailRing, UsedRing, Ready, EventIdx}
 use Rattle.ledger.specs.declared.Call.TheVariants.{Set, SetNextUsed, Begin, NextHead, Put, Ask, Question}
 use Rattle.ledger.specs.declared.Answer.TheVariants.{Done, Took, Yes, No}
-use Rattle.ledger.specs.World.{World, Event, Device, State, Query, step_of, step_mem, answer, after_call, run, first, called, note_used, note_avail, note_query, by_put, on_placed, Reached, begins, device, next_put}
+use Rattle.ledger.specs.World.{World, Event, Device, State, Query, step_of, step_mem, answer, after_call, run, first, called, note_used, note_avail, note_query, by_put, on_configured, Reached, begins, device, next_put}
 use Rattle.ledger.specs.Footprint.{answers, world}
 use Rattle.ledger.specs.Ring.{Leaves}
 use Rattle.ledger.specs.Named.{Named}
 use Rattle.ledger.specs.Always.{used_always}
 use Rattle.ledger.specs.Notice.{since_number, question_wraps}
+use Rattle.queue.specs.declared.Error.{Error}
 
 pub zeros : ℕ → List ℕ
 zeros zero = []
@@ -63,12 +59,12 @@ start_proper = record { largest = (1, refl); top = omega arith; power = (1, refl
 
 pub events : List Event
 events =
-    Device (Set (AvailRing (Given 16) (Given 0))) ∷ Device (Set (UsedRing (Given 32) (Given 0))) ∷ Device (Set (EventIdx true)) ∷ Device (Set (Ready true))
+    Device (Set (AvailRing (Some 16) (Some 0))) ∷ Device (Set (UsedRing (Some 32) (Some 0))) ∷ Device (Set (EventIdx true)) ∷ Device (Set (Ready true))
     ∷ Device Begin ∷ Device NextHead ∷ Device (Put 1 7) ∷ Device Question ∷ Device Ask ∷ []
 
 -- a head is taken, a put is done, the driver is to be notified, and nothing came: the premises on answers are met
 pub run-answers : answers region start events ≡ Done ∷ Done ∷ Done ∷ Done ∷ Done ∷ Took 1 ∷ Done ∷ Yes ∷ No ∷ []
-unfolding answers step_of step_mem region start image events zeros set_avail_ring_of set_used_ring_of whole_of begin_of head_of put_of put_mem room question_of ask_of ask_mem tells sub16 read2_of readable writable bytes_at after covered spots spot stretch_of stretch_in stretch_r extent rows
+unfolding answers step_of step_mem region start image events zeros set_avail_ring_of set_used_ring_of whole_of begin_of head_of put_of put_mem room question_of ask_of ask_mem tells sub16 read_of readable writable bytes_at after covered spots spot stretch_of stretch_in stretch_r extent rows
 run-answers = refl
 
 -- and when the question was asked one entry had been put since the start
@@ -81,7 +77,7 @@ last_since [] = 0
 last_since (x ∷ xs) = x.book.since
 
 pub run_known : (last_known (run region (first start) events).queries ≡ true) × (last_since (run region (first start) events).queries ≡ 1)
-unfolding last_known last_since run note_used note_avail note_query step_of step_mem region start image events zeros set_avail_ring_of set_used_ring_of whole_of begin_of head_of put_of put_mem room question_of ask_of ask_mem tells sub16 read2_of readable writable bytes_at after covered spots spot stretch_of stretch_in stretch_r extent rows
+unfolding last_known last_since run note_used note_avail note_query step_of step_mem region start image events zeros set_avail_ring_of set_used_ring_of whole_of begin_of head_of put_of put_mem room question_of ask_of ask_mem tells sub16 read_of readable writable bytes_at after covered spots spot stretch_of stretch_in stretch_r extent rows
 run_known = (refl, refl)
 
 -- a driver whose rings don't overlap writes elsewhere, and so leaves the used ring alone, as `history` asks
@@ -100,15 +96,15 @@ driver_leaves t g w some a bs (inr h) =
     }
 
 -- two memories that differ only in a byte outside the one region agree, as `isolation` asks
-below : (n size a j : ℕ) (s : table.Stretch) → stretch_r (row 0 n 0) size a ≡ s → place_of (first_of s Nothing) ≡ At j → j < n
-below n size a j (Run i l) e h =
-    let f = stretch_r_inv (row 0 n 0) size a i l e in
+below : (n size a j : ℕ) (s : Option Run) → stretch_r (row 0 n 0) size a ≡ s → place_of (option_or s None) ≡ Some j → j < n
+below n size a j (Some u) e h =
+    let f = stretch_r_inv (row 0 n 0) size a u.at u.len e in
     let k = (extent-fits (row 0 n 0) size).len in
-    let z : i ≡ j = cc in
+    let z : u.at ≡ j = cc in
     omega (arith, f.0.inside, f.0.is)
-below n size a j Nothing e h = absurd (let z : ◌≡◌ {A = ℕ} 0 1 = cc in omega arith)
+below n size a j None e h = absurd (let z : ◌≡◌ {A = ℕ} 0 1 = cc in omega arith)
 
-spot_below : (n size a j : ℕ) → spot (0 ∷ n ∷ 0 ∷ []) size a ≡ At j → j < n
+spot_below : (n size a j : ℕ) → spot (0 ∷ n ∷ 0 ∷ []) size a ≡ Some j → j < n
 unfolding spot stretch_of stretch_in rows
 spot_below n size a j e = below n size a j (stretch_r (row 0 n 0) size a) refl e
 
@@ -136,7 +132,7 @@ one_place = queue 1 0 0 true 0 1 true 0 0 0
 
 pub put_clashes : (answer clash (world one_place (pass 0) (zeros 32)) (Put 0 7) ≡ Done)
     × (bytes_at clash (after_call clash (world one_place (pass 0) (zeros 32)) (Put 0 7)).mem (used_entry_addr 0 1 0) 8 ≡ 1 ∷ 0 ∷ 0 ∷ 0 ∷ 7 ∷ 0 ∷ 0 ∷ 0 ∷ [])
-unfolding clash one_place zeros step_of step_mem put_of put_mem room read2_of readable writable bytes_at after covered spots spot stretch_of stretch_in stretch_r extent rows
+unfolding clash one_place zeros step_of step_mem put_of put_mem room read_of readable writable bytes_at after covered spots spot stretch_of stretch_in stretch_r extent rows
 put_clashes = (refl, refl)
 
 -- and for `asked_told`: the two bytes of avail_event, at 20 and 21, share a byte; next available is 1, and the driver reads 0
@@ -146,8 +142,8 @@ share = 0 ∷ 21 ∷ 0 ∷ 21 ∷ 1 ∷ 20 ∷ []
 pub asking : World
 asking = world (queue 1 1 0 true 0 1 true 0 0 8) (pass 1) (0 ∷ 0 ∷ 1 ∷ zeros 21)
 
-pub ask_clashes : (answer share asking Ask ≡ No) × (read2_of share (after_call share asking Ask).mem (avail_event_addr 8 1) ≡ Value 0)
-unfolding share asking zeros step_of step_mem ask_of ask_mem read2_of readable writable bytes_at after covered spots spot stretch_of stretch_in stretch_r extent rows
+pub ask_clashes : (answer share asking Ask ≡ No) × (read2_of share (after_call share asking Ask).mem (avail_event_addr 8 1) ≡ Some 0)
+unfolding share asking zeros step_of step_mem ask_of ask_mem read_of readable writable bytes_at after covered spots spot stretch_of stretch_in stretch_r extent rows
 ask_clashes = (refl, refl)
 
 -- `Proper`: with 3 places, 65,536 is no multiple of the size. The put with number 65,536, whose place is 1, is written at place 0
@@ -159,7 +155,7 @@ two_puts = run region (first three) (Device (Put 1 8) ∷ Device (Put 2 9) ∷ [
 
 pub place_lost : (two_puts.used.from + length two_puts.used.puts ≡ 65537)
     × (bytes_at region two_puts.world.mem (used_entry_addr 0 3 65536) 8 ≡ zeros 8)
-unfolding two_puts three run note_used note_avail note_query region zeros step_of step_mem put_of put_mem room read2_of readable writable bytes_at after covered spots spot stretch_of stretch_in stretch_r extent rows
+unfolding two_puts three run note_used note_avail note_query region zeros step_of step_mem put_of put_mem room read_of readable writable bytes_at after covered spots spot stretch_of stretch_in stretch_r extent rows
 place_lost = (refl, refl)
 
 -- the position not set since the last question: after it was set, no entry has been put, and the answer is yes, since `added` still counts one
@@ -170,11 +166,11 @@ pub position_set : List Event
 position_set = Device (Put 1 8) ∷ Device (SetNextUsed 100) ∷ Device Question ∷ []
 
 pub set_position_told : answers region counted position_set ≡ Done ∷ Done ∷ Yes ∷ []
-unfolding answers counted position_set region zeros step_of step_mem put_of put_mem room question_of tells sub16 read2_of readable writable bytes_at after covered spots spot stretch_of stretch_in stretch_r extent rows
+unfolding answers counted position_set region zeros step_of step_mem put_of put_mem room question_of tells sub16 read_of readable writable bytes_at after covered spots spot stretch_of stretch_in stretch_r extent rows
 set_position_told = refl
 
 pub set_position_none : (last_since (run region (first counted) position_set).queries ≡ 0) × (last_known (run region (first counted) position_set).queries ≡ false)
-unfolding last_known last_since run note_used note_avail note_query counted position_set region zeros step_of step_mem put_of put_mem room question_of tells sub16 read2_of readable writable bytes_at after covered spots spot stretch_of stretch_in stretch_r extent rows
+unfolding last_known last_since run note_used note_avail note_query counted position_set region zeros step_of step_mem put_of put_mem room question_of tells sub16 read_of readable writable bytes_at after covered spots spot stretch_of stretch_in stretch_r extent rows
 set_position_none = (refl, refl)
 
 -- ---- exactly 65,536 puts are reached, by as many puts to a queue of one place; and then the driver is not notified, whatever it named
@@ -200,7 +196,7 @@ unfolding room writable covered spots spot stretch_of stretch_in stretch_r exten
 room_there q n e f h = rw (e, f, h, mod-one)
 
 module _ (k : ℕ) (s : State) (h : Filled k s) where
-  done : put_of region s.world.queue s.world.mem 0 0 ≡ Added (grown s.world.queue)
+  done : put_of region s.world.queue s.world.mem 0 0 ≡ Ok (grown s.world.queue)
   done =
       sym (put_done region s.world.queue s.world.mem 0 0 (let e = h.size in omega arith)
       (room_there s.world.queue (length s.world.mem) h.size h.ring h.long)).answer
@@ -210,13 +206,13 @@ module _ (k : ℕ) (s : State) (h : Filled k s) where
   filled_put =
       record {
         reached = device h.reached (Put 0 0);
-        size = ap (λ (r : Placed). (on_placed s.world.queue s.world.pass r).queue.size) done ∙ h.size;
-        ring = ap (λ (r : Placed). (on_placed s.world.queue s.world.pass r).queue.used_ring) done ∙ h.ring;
-        avail = ap (λ (r : Placed). (on_placed s.world.queue s.world.pass r).queue.avail_ring) done ∙ h.avail;
-        on = ap (λ (r : Placed). (on_placed s.world.queue s.world.pass r).queue.event_idx_enabled) done ∙ h.on;
+        size = ap (λ (r : Result Queue Error). (on_configured s.world.queue s.world.pass r).queue.size) done ∙ h.size;
+        ring = ap (λ (r : Result Queue Error). (on_configured s.world.queue s.world.pass r).queue.used_ring) done ∙ h.ring;
+        avail = ap (λ (r : Result Queue Error). (on_configured s.world.queue s.world.pass r).queue.avail_ring) done ∙ h.avail;
+        on = ap (λ (r : Result Queue Error). (on_configured s.world.queue s.world.pass r).queue.event_idx_enabled) done ∙ h.on;
         long = put-length region s.world.queue s.world.mem 0 0 ∙ h.long;
-        since = ap (λ (r : Placed). (by_put s.used 0 0 (on_placed s.world.queue s.world.pass r).answer).since) done ∙ ap (λ (x : ℕ). x + 1) h.since ∙ add-one k;
-        known = ap (λ (r : Placed). (by_put s.used 0 0 (on_placed s.world.queue s.world.pass r).answer).known) done ∙ h.known;
+        since = ap (λ (r : Result Queue Error). (by_put s.used 0 0 (on_configured s.world.queue s.world.pass r).answer).since) done ∙ ap (λ (x : ℕ). x + 1) h.since ∙ add-one k;
+        known = ap (λ (r : Result Queue Error). (by_put s.used 0 0 (on_configured s.world.queue s.world.pass r).answer).known) done ∙ h.known;
       }
 
 filled_is : (k : ℕ) → Filled k (filled k)
@@ -228,8 +224,8 @@ event_there : (size avail n : ℕ) → size ≡ 1 → avail ≡ 16 → n ≡ 64 
 unfolding readable covered spots spot stretch_of stretch_in stretch_r extent rows region
 event_there size avail n x y z = rw (x, y, z)
 
-read_there : (q : Queue) (m : List ℕ) → q.size ≡ 1 → q.avail_ring ≡ 16 → length m ≡ 64 → (event : ℕ) × (used_event_read region q m ≡ Value event)
-unfolding read2_of
+read_there : (q : Queue) (m : List ℕ) → q.size ≡ 1 → q.avail_ring ≡ 16 → length m ≡ 64 → (event : ℕ) × (used_event_read region q m ≡ Some event)
+unfolding read_of
 read_there q m e f h = (number (bytes_at region m (q.avail_ring + (4 + 2 * q.size)) 2), rw (event_there q.size q.avail_ring (length m) e f h))
 
 wraps_at : (k : ℕ) (s : State) → k ≡ 65536 → Filled k s → (event : ℕ) × (answer region s.world Question ≡ No) × Named (since_number s.used) (next_put s.used) event

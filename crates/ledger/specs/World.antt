@@ -1,7 +1,7 @@
 -- SPDX-License-Identifier: Apache-2.0 AND BSD-3-Clause
 -- The world: a queue, the pass that goes on, and guest memory; what can happen to it; and the ledger, which is in no memory: what was
 -- called and answered, counted without wrapping. This is what has to be believed: the theorems (Theorems) speak of it.
-use Rattle.std.specs.Prelude.{ℕ, ◌+◌, ◌≡◌, refl, Bool, true, false, List, [], ◌∷◌, ◌++◌, length, eqb, ℤ}
+use Rattle.std.specs.Prelude.{ℕ, ◌+◌, ◌≡◌, refl, Bool, true, false, List, [], ◌∷◌, ◌++◌, length, eqb, ℤ, Option, Some, None, Result, Ok, Err}
 use Rattle.std.proofs.Common.{ap, ◌∙◌}
 use Rattle.std.proofs.Math.IntN.{sub_ℕ}
 use Rattle.regions.specs.Table.{pick, Table}
@@ -13,20 +13,6 @@ use Rattle.queue.specs.Used.{put_of, put_mem}
 use Rattle.queue.specs.Notify.{stop_of, stop_mem, ask_of, ask_mem, question_of}
 use Rattle.queue.specs.declared.Queue.{Queue}
 use Rattle.queue.specs.declared.AvailIter.{AvailIter}
-use Rattle.queue.specs.declared.Configured.{Configured}
-use Rattle.queue.specs.declared.Configured.TheVariants.{Changed, NotChanged}
-use Rattle.queue.specs.declared.Begun.{Begun}
-use Rattle.queue.specs.declared.Begun.TheVariants.{Pass, NotBegun}
-use Rattle.queue.specs.declared.Taken.{Taken}
-use Rattle.queue.specs.declared.Taken.TheVariants.{Head, NoHead}
-use Rattle.queue.specs.declared.Placed.{Placed}
-use Rattle.queue.specs.declared.Placed.TheVariants.{Added, NotAdded}
-use Rattle.queue.specs.declared.Stopped.{Stopped}
-use Rattle.queue.specs.declared.Stopped.TheVariants.{Disabled, NotDisabled}
-use Rattle.queue.specs.declared.Asked.{Asked}
-use Rattle.queue.specs.declared.Asked.TheVariants.{Enabled, NotEnabled}
-use Rattle.queue.specs.declared.Answered.{Answered}
-use Rattle.queue.specs.declared.Answered.TheVariants.{Needed, NotAnswered}
 use Rattle.ledger.specs.declared.Setting.{Setting}
 use Rattle.ledger.specs.declared.Setting.TheVariants.{Size, DescTable, AvailRing, UsedRing, Ready, EventIdx}
 use Rattle.ledger.specs.declared.Call.{Call}
@@ -34,52 +20,49 @@ use Rattle.ledger.specs.declared.Call.TheVariants.{Set, SetNextAvail, SetNextUse
 use Rattle.ledger.specs.declared.Answer.{Answer}
 use Rattle.ledger.specs.declared.Answer.TheVariants.{Done, Took, NoEntry, Yes, No, Refused}
 use Rattle.ledger.specs.declared.Step.{Step}
+use Rattle.queue.specs.declared.Error.{Error}
 
 -- ---- one call: the functions that the queue's contracts cite, and nothing else
 
 abbrev pub step : Answer → Queue → AvailIter → Step
 step a q p = record { answer = a; queue = q; pass = p }
 
-abbrev pub set_of : Queue → Setting → Configured
+abbrev pub set_of : Queue → Setting → Result Queue Error
 set_of q (Size n) = set_size_of q n
 set_of q (DescTable low high) = set_desc_table_of q low high
 set_of q (AvailRing low high) = set_avail_ring_of q low high
 set_of q (UsedRing low high) = set_used_ring_of q low high
-set_of q (Ready b) = Changed (with_ready q b)
-set_of q (EventIdx b) = Changed (with_event_idx q b)
+set_of q (Ready b) = Ok (with_ready q b)
+set_of q (EventIdx b) = Ok (with_event_idx q b)
 
 -- a refusal hands back no queue: the caller's own is still the one
-abbrev pub on_configured : Queue → AvailIter → Configured → Step
-on_configured q p (Changed r) = step Done r p
-on_configured q p (NotChanged e) = step (Refused e) q p
+abbrev pub on_configured : Queue → AvailIter → Result Queue Error → Step
+on_configured q p (Ok r) = step Done r p
+on_configured q p (Err e) = step (Refused e) q p
 
-abbrev pub on_begun : Queue → AvailIter → Begun → Step
-on_begun q p (Pass r) = step Done q r
-on_begun q p (NotBegun e) = step (Refused e) q p
+abbrev pub on_begun : Queue → AvailIter → Result AvailIter Error → Step
+on_begun q p (Ok r) = step Done q r
+on_begun q p (Err e) = step (Refused e) q p
 
-abbrev pub on_taken : Queue → AvailIter → Taken → Step
-on_taken q p (Head h r) = step (Took h) r p
-on_taken q p NoHead = step NoEntry q p
+abbrev pub on_taken : Queue → AvailIter → Option (ℕ × Queue) → Step
+on_taken q p (Some (h, r)) = step (Took h) r p
+on_taken q p None = step NoEntry q p
 
-abbrev pub on_placed : Queue → AvailIter → Placed → Step
-on_placed q p (Added r) = step Done r p
-on_placed q p (NotAdded e) = step (Refused e) q p
-
-abbrev pub on_stopped : Queue → AvailIter → Stopped → Step
-on_stopped q p Disabled = step Done q p
-on_stopped q p (NotDisabled e) = step (Refused e) q p
+abbrev pub on_stopped : Queue → AvailIter → Result (Unit {0}) Error → Step
+on_stopped q p (Ok tt) = step Done q p
+on_stopped q p (Err e) = step (Refused e) q p
 
 abbrev pub yes_no : Bool → Answer
 yes_no true = Yes
 yes_no false = No
 
-abbrev pub on_asked : Queue → AvailIter → Asked → Step
-on_asked q p (Enabled b) = step (yes_no b) q p
-on_asked q p (NotEnabled e) = step (Refused e) q p
+abbrev pub on_asked : Queue → AvailIter → Result Bool Error → Step
+on_asked q p (Ok b) = step (yes_no b) q p
+on_asked q p (Err e) = step (Refused e) q p
 
-abbrev pub on_answered : Queue → AvailIter → Answered → Step
-on_answered q p (Needed b r) = step (yes_no b) r p
-on_answered q p (NotAnswered e) = step (Refused e) q p
+abbrev pub on_answered : Queue → AvailIter → Result (Bool × Queue) Error → Step
+on_answered q p (Ok (b, r)) = step (yes_no b) r p
+on_answered q p (Err e) = step (Refused e) q p
 
 -- what a call answers, and what it leaves of queue and pass
 unfoldable pub step_of : Table → Queue → AvailIter → List ℕ → Call → Step
@@ -92,7 +75,7 @@ step_of t q p m Begin = on_begun q p (begin_of t q m)
 step_of t q p m NextHead = on_taken q p (head_of t q p m)
 step_of t q p m Pop = on_taken q p (pop_of t q m)
 step_of t q p m GoBack = step Done (back_of q) p
-step_of t q p m (Put head n) = on_placed q p (put_of t q m head n)
+step_of t q p m (Put head n) = on_configured q p (put_of t q m head n)
 step_of t q p m Stop = on_stopped q p (stop_of t q m)
 step_of t q p m Ask = on_asked q p (ask_of t q m)
 step_of t q p m Question = on_answered q p (question_of t q m)

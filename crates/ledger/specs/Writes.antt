@@ -1,6 +1,6 @@
 -- SPDX-License-Identifier: Apache-2.0 AND BSD-3-Clause
 -- What the device writes: a byte that is not what the guest left lies in a field that a call of the device names.
-use Rattle.std.specs.Prelude.{ℕ, suc, ◌+◌, ◌<◌, ◌≡◌, ◌⊎◌, Bool, true, false, List, [], ◌∷◌, length, get_or, eqb}
+use Rattle.std.specs.Prelude.{ℕ, suc, ◌+◌, ◌<◌, ◌≡◌, ◌⊎◌, Bool, true, false, List, [], ◌∷◌, length, get_or, eqb, Option, Some, None}
 use Rattle.std.proofs.Common.{add-zero, arith, ◌∙◌, inr, eqb-true}
 use Rattle.std.proofs.Math.Path.{refl}
 use Rattle.std.proofs.Math.Logic.{inl}
@@ -8,8 +8,6 @@ use Rattle.std.proofs.lemmas.Bool.{eqb-false}
 use Rattle.wire.specs.Number.{bytes}
 use Rattle.regions.specs.Table.{pick, Table, Maps}
 use Rattle.regions.specs.Spots.{spots, Mapped, spots_mapped, length-spots}
-use Rattle.regions.specs.declared.Place.{Place}
-use Rattle.regions.specs.declared.Place.TheVariants.{At, Nowhere}
 use Rattle.memory.specs.Cells.{Off, store_off}
 use Rattle.memory.specs.Access.{writable, after, after_done, after_refused, after-length}
 use Rattle.desc.specs.Desc.{used_bytes}
@@ -39,17 +37,17 @@ module _ (t : Table) (size j : ℕ) where
   further a n l =
       record { k = suc l.k; inside = let h = l.inside in omega arith; at = let e : suc a + l.k ≡ a + suc l.k = omega arith in rw e at l.at }
 
-  found : (a : ℕ) (ps : List Place) → Mapped t size a ps → Off ps j ⊎ Lies t size a (length ps) j
+  found : (a : ℕ) (ps : List (Option ℕ)) → Mapped t size a ps → Off ps j ⊎ Lies t size a (length ps) j
   found a [] h = inl tt
-  found a (At i ∷ ps) h = here (eqb j i) refl (found (suc a) ps h.1)
+  found a (Some i ∷ ps) h = here (eqb j i) refl (found (suc a) ps h.1)
     where
-      here : (b : Bool) → eqb j i ≡ b → Off ps j ⊎ Lies t size (suc a) (length ps) j → Off (At i ∷ ps) j ⊎ Lies t size a (suc (length ps)) j
+      here : (b : Bool) → eqb j i ≡ b → Off ps j ⊎ Lies t size (suc a) (length ps) j → Off (Some i ∷ ps) j ⊎ Lies t size a (suc (length ps)) j
       here true e r = inr (record { k = 0; inside = omega arith; at = rw (eqb-true j i e, add-zero) h.0 })
       here false e (inl o) = inl (eqb-false j i e, o)
       here false e (inr l) = inr (further a (length ps) l)
-  found a (Nowhere ∷ ps) h = later (found (suc a) ps h)
+  found a (None ∷ ps) h = later (found (suc a) ps h)
     where
-      later : Off ps j ⊎ Lies t size (suc a) (length ps) j → Off (Nowhere ∷ ps) j ⊎ Lies t size a (suc (length ps)) j
+      later : Off ps j ⊎ Lies t size (suc a) (length ps) j → Off (None ∷ ps) j ⊎ Lies t size a (suc (length ps)) j
       later (inl o) = inl o
       later (inr l) = inr (further a (length ps) l)
 

@@ -3,19 +3,21 @@
 // theorems of specs/ speak of.
 #![tactic(auto)]
 
-use queue::{AvailIter, Error, Half, Queue};
+ghost use Rattle.std.specs.Prelude.{◌≡◌};
+ghost use Rattle.ledger.specs.World.{yes_no};
+
+use queue::{AvailIter, Error, Queue};
 
 pub mod make; // make.rt: makes a call
 pub mod number; // number.rt: a call chosen by a number
-mod told; // told.rt: what each kind of answer comes to
 
 // What the driver sets through the transport.
 #[derive(Clone, Copy)]
 pub enum Setting {
     Size(u16),
-    DescTable(Half, Half),
-    AvailRing(Half, Half),
-    UsedRing(Half, Half),
+    DescTable(Option<u32>, Option<u32>),
+    AvailRing(Option<u32>, Option<u32>),
+    UsedRing(Option<u32>, Option<u32>),
     Ready(bool),
     EventIdx(bool),
 }
@@ -39,7 +41,7 @@ pub enum Call {
     Question,
 }
 
-// What a call answers.
+// What a call answers. One enum, and no Option or Result in it: the books and theorems of specs/ go by these cases.
 #[derive(Clone, Copy)]
 pub enum Answer {
     Done,
@@ -48,6 +50,14 @@ pub enum Answer {
     Yes,
     No,
     Refused(Error),
+}
+
+impl From<bool> for Answer {
+    ghost from_gives = { λ yes a. a ≡ yes_no yes };
+
+    fn from(yes: bool) -> Answer {
+        if yes { Answer::Yes } else { Answer::No }
+    }
 }
 
 // What a call answers, and what it leaves of the device's own: the queue, and the pass that goes on.
@@ -64,6 +74,6 @@ pub struct Args {
     pub number: u16,
     pub length: u32,
     pub on: bool,
-    pub low: Half,
-    pub high: Half,
+    pub low: Option<u32>,
+    pub high: Option<u32>,
 }

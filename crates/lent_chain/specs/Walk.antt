@@ -2,7 +2,8 @@
 -- A chain in six words that the caller lends, and the descriptors of a walk in an array: address, length and flags of each.
 use Prim.Native.Nat.{ℕ, zero, suc, ◌+◌, ◌-◌, ◌*◌, ◌/◌, ◌≤◌, ◌<◌, max}
 use Rattle.std.proofs.Common.{arith, ap, ◌∙◌}
-use Rattle.std.specs.Prelude.{◌≡◌, refl, Bool, true, false, List, [], ◌∷◌, ◌++◌, length, get_or, leb}
+use Rattle.std.proofs.Math.Nat.{sub-zero}
+use Rattle.std.specs.Prelude.{◌≡◌, refl, Bool, true, false, Option, Some, None, Result, Ok, Err, List, [], ◌∷◌, ◌++◌, length, get_or, leb}
 use Rattle.std.proofs.Math.Path.{sym}
 use Rattle.std.proofs.lemmas.List.Edits.{sets}
 use Rattle.std.proofs.Math.Seq.{length-sets}
@@ -10,27 +11,17 @@ use borrow.Author.Tests.{leb-true, le-leb, lt-leb}
 use Rattle.wire.specs.Part.{sets-append}
 use Rattle.regions.specs.Table.{pick, Table}
 use Rattle.desc.specs.declared.Descriptor.{Descriptor}
-use Rattle.chain.specs.Steps.{chain_at, on_step, step_of, walk}
+use Rattle.chain.specs.Steps.{Step, chain_at, on_step, step_of, walk}
 use Rattle.chain.specs.Walk.{step_falls}
 use Rattle.chain.specs.declared.DescriptorChain.{DescriptorChain}
-use Rattle.chain.specs.declared.Step.{Step}
-use Rattle.chain.specs.declared.Step.TheVariants.{Next, End}
 use Rattle.queue.specs.State.{pass}
 use Rattle.queue.specs.Avail.{head_of}
-use Rattle.queue.specs.declared.Taken.{Taken}
-use Rattle.queue.specs.declared.Taken.TheVariants.{Head, NoHead}
-use Rattle.lent.specs.State.{pick_true, load_of, kept}
-use Rattle.lent.specs.declared.state.Loaded.{Loaded}
-use Rattle.lent.specs.declared.state.Loaded.TheVariants.{Good, Bad}
-use Rattle.lent.specs.declared.state.Reply.{Reply}
-use Rattle.lent.specs.declared.state.Reply.TheVariants.{Now, Same}
-use Rattle.lent_chain.specs.declared.Held.{Held}
-use Rattle.lent_chain.specs.declared.Held.TheVariants.{Chain, NoChain}
+use Rattle.queue.specs.declared.Queue.{Queue}
+use Rattle.lent.specs.State.{Answer, Loaded, Now, Same, pick_true, load_of, code_of, kept}
+use Rattle.lent.specs.Answers.{taken}
+use Rattle.lent.specs.declared.refusal.Refusal.{Refusal}
+use Rattle.lent.specs.declared.refusal.Refusal.TheVariants.{ChainShort, ChainField, NoRoom}
 use Rattle.lent_chain.specs.declared.Walked.{Walked}
-use Rattle.lent_chain.specs.declared.Went.{Went}
-use Rattle.lent_chain.specs.declared.Went.TheVariants.{On, Stay}
-use Rattle.lent_chain.specs.declared.Taking.{Taking}
-use Rattle.lent_chain.specs.declared.Taking.TheVariants.{Took, Not}
 
 -- the six words of a chain, in the order of its fields, and the chain that the words hold
 abbrev pub chain_words : DescriptorChain → List ℕ
@@ -69,8 +60,15 @@ unfoldable pub fits_chain : List ℕ → Bool
 fits_chain ws = pick (leb (chain16 ws) 65535) (leb (get_or ws 5 0) 4294967295) false
 
 -- fewer than six words, or one of them too large, is a refusal of its own
+abbrev pub Held : Type 0
+Held = Result DescriptorChain Refusal
+
 unfoldable pub held_of : List ℕ → Held
-held_of ws = pick (leb 6 (length ws)) (pick (fits_chain ws) (Chain (chain_in ws)) (NoChain 65550)) (NoChain 65549)
+held_of ws = pick (leb 6 (length ws)) (pick (fits_chain ws) (Ok (chain_in ws)) (Err ChainField)) (Err ChainShort)
+
+-- the same of six words that are there
+unfoldable pub read_chain : List ℕ → Option DescriptorChain
+read_chain ws = pick (fits_chain ws) (Some (chain_in ws)) None
 
 -- how many descriptors an array has room for
 abbrev pub room : List ℕ → ℕ
@@ -82,62 +80,78 @@ pub record Filled (t : Table) (m : List ℕ) (c : DescriptorChain) (out : List �
   pub chain : w.chain ≡ rest (room out) t m c
   pub array : out' ≡ sets out 0 (triples (walk (room out) t m c))
 
--- ---- what the calls on a chain answer: a number, with the chain after it, or alone where its words stay as they are
+-- ---- what the calls on a chain answer: a number with the chain after it, a number alone where its words stay as they are, or a refusal
+abbrev pub Went : Type 0
+Went = Answer DescriptorChain
+
+abbrev pub On : ℕ → DescriptorChain → Went
+On k c = Now k c
+
+abbrev pub Stay : Refusal → Went
+Stay e = Err e
+
 abbrev pub went_code : Went → ℕ
-went_code (On k c) = k
-went_code (Stay k) = k
+went_code x = code_of x
+
+abbrev pub kept_after : List ℕ → Option DescriptorChain → List ℕ
+kept_after cs (Some c) = pick (leb 6 (length cs)) (sets cs 0 (chain_words c)) cs
+kept_after cs None = cs
 
 abbrev pub kept_chain : List ℕ → Went → List ℕ
-kept_chain cs (On k c) = pick (leb 6 (length cs)) (sets cs 0 (chain_words c)) cs
-kept_chain cs (Stay k) = cs
+kept_chain cs (Ok x) = kept_after cs x.after
+kept_chain cs (Err e) = cs
 
-abbrev pub on_held : {A : Type 0} → Held → (DescriptorChain → A) → (ℕ → A) → A
-on_held (Chain c) f g = f c
-on_held (NoChain k) f g = g k
+abbrev pub on_held : {A : Type 0} → Held → (DescriptorChain → A) → (Refusal → A) → A
+on_held (Ok c) f g = f c
+on_held (Err e) f g = g e
 
 -- a walk into an array that has room for a descriptor
 abbrev pub went_walk : Table → List ℕ → List ℕ → DescriptorChain → Went
-went_walk t m out c = pick (leb 3 (length out)) (On (length (walk (room out) t m c)) (rest (room out) t m c)) (Stay 65551)
+went_walk t m out c = pick (leb 3 (length out)) (On (length (walk (room out) t m c)) (rest (room out) t m c)) (Stay NoRoom)
 
 abbrev pub walk_array : Table → List ℕ → List ℕ → DescriptorChain → List ℕ
 walk_array t m out c = pick (leb 3 (length out)) (sets out 0 (triples (walk (room out) t m c))) out
 
 -- one step
 abbrev pub went_step : List ℕ → Step → Went
-went_step out (Next d r) = pick (leb 3 (length out)) (On 1 r) (Stay 65551)
-went_step out End = pick (leb 3 (length out)) (Stay 0) (Stay 65551)
+went_step out (Some (d, r)) = pick (leb 3 (length out)) (On 1 r) (Stay NoRoom)
+went_step out None = pick (leb 3 (length out)) (Same 0) (Stay NoRoom)
 
 abbrev pub step_array : List ℕ → Step → List ℕ
-step_array out (Next d r) = pick (leb 3 (length out)) (sets out 0 (triple d)) out
-step_array out End = out
+step_array out (Some (d, r)) = pick (leb 3 (length out)) (sets out 0 (triple d)) out
+step_array out None = out
 
 -- a chain from a head on, in n words
 abbrev pub start_on : ℕ → Loaded → Went
-start_on head (Good q) = On 0 (chain_at q.desc_table q.size head)
-start_on head (Bad k) = Stay k
+start_on head (Ok q) = On 0 (chain_at q.desc_table q.size head)
+start_on head (Err e) = Stay e
 
 abbrev pub start_of : Loaded → ℕ → ℕ → Went
-start_of x n head = pick (leb 6 n) (start_on head x) (Stay 65549)
+start_of x n head = pick (leb 6 n) (start_on head x) (Stay ChainShort)
 
 -- ---- take: the next head of a pass, and its chain walked into an array of k words, the chain behind it in n words
-abbrev pub taken_head : Taken → Taking
-taken_head (Head h q) = Took h q
-taken_head NoHead = Not 65536
+abbrev pub Taking : Type 0
+Taking = Result (Option (ℕ × Queue)) Refusal
 
 abbrev pub take_on : Table → List ℕ → ℕ → Loaded → Taking
-take_on t m last (Good q) = taken_head (head_of t q (pass last) m)
-take_on t m last (Bad k) = Not k
+take_on t m last (Ok q) = Ok (head_of t q (pass last) m)
+take_on t m last (Err e) = Err e
 
 unfoldable pub take_of : Table → List ℕ → ℕ → ℕ → ℕ → Loaded → Taking
-take_of t m last n k x = pick (leb 6 n) (pick (leb 3 k) (take_on t m last x) (Not 65551)) (Not 65549)
+take_of t m last n k x = pick (leb 6 n) (pick (leb 3 k) (take_on t m last x) (Err NoRoom)) (Err ChainShort)
 
-abbrev pub taken_reply : Taking → Reply
-taken_reply (Took h q) = Now h q
-taken_reply (Not k) = Same k
+abbrev pub taken_reply : Taking → Answer Queue
+taken_reply (Ok x) = taken x
+taken_reply (Err e) = Err e
 
-abbrev pub on_taking : {A : Type 0} → Taking → (DescriptorChain → A) → (ℕ → A) → A
-on_taking (Took h q) f g = f (chain_at q.desc_table q.size h)
-on_taking (Not k) f g = g k
+-- the chain of the head that was taken, or what is answered where none was
+abbrev pub on_taking : {A : Type 0} → Taking → (DescriptorChain → A) → (Went → A) → A
+on_taking (Ok (Some x)) f g = f (chain_at x.1.desc_table x.1.size x.0)
+on_taking (Ok None) f g = g (Same 65536)
+on_taking (Err e) f g = g (Err e)
+
+abbrev pub same : Went → Went
+same x = x
 
 -- ---- what the calls on a chain answer, and what they leave in its words and in the array
 pub record WentOn (cs : List ℕ) (x : Went) (array : List ℕ) (r : ℕ) (cs' out' : List ℕ) : Type 0 where
@@ -149,10 +163,10 @@ abbrev pub taking : Table → List ℕ → ℕ → List ℕ → List ℕ → Lis
 taking t m last ws cs out = take_of t m last (length cs) (length out) (load_of ws)
 
 pub record TookAll (t : Table) (m : List ℕ) (last : ℕ) (ws cs out : List ℕ) (r : ℕ) (ws' cs' out' : List ℕ) : Type 0 where
-  pub went : WentOn cs (on_taking (taking t m last ws cs out) (went_walk t m out) Stay) (on_taking (taking t m last ws cs out) (walk_array t m out) (λ k. out)) r cs' out'
+  pub went : WentOn cs (on_taking (taking t m last ws cs out) (went_walk t m out) same) (on_taking (taking t m last ws cs out) (walk_array t m out) (λ x. out)) r cs' out'
   pub state : ws' ≡ kept ws (taken_reply (taking t m last ws cs out))
 
--- ---- for the proofs of `fields_fit`, `chain_in` and `load_chain`
+-- ---- case by case: the words that hold a chain and those that hold none
 module _ (ws : List ℕ) where
   pub chain_fits : fits_chain ws ≡ true → (chain16 ws ≤ 65535) × (get_or ws 5 0 ≤ 4294967295)
   unfolding fits_chain
@@ -166,26 +180,26 @@ module _ (ws : List ℕ) where
   unfolding fits_chain
   chain_unfit h = rw (lt-leb _ _ h)
 
-  pub held_short : length ws < 6 → NoChain 65549 ≡ held_of ws
+  pub held_short : length ws < 6 → Err ChainShort ≡ held_of ws
   unfolding held_of
   held_short h = rw (lt-leb _ _ h)
 
   module _ (h : 6 ≤ length ws) (b : Bool) (e : b ≡ fits_chain ws) where
-    pub held_unfit : b ≡ false → NoChain 65550 ≡ held_of ws
+    pub held_unfit : b ≡ false → Err ChainField ≡ held_of ws
     unfolding held_of
     held_unfit f = rw (le-leb _ _ h, sym e ∙ f)
 
-    pub held_chain : b ≡ true → (c : DescriptorChain) → c ≡ chain_in ws → Chain c ≡ held_of ws
+    pub held_chain : b ≡ true → (c : DescriptorChain) → c ≡ chain_in ws → Ok c ≡ held_of ws
     unfolding held_of
     held_chain f c g = rw (le-leb _ _ h, sym e ∙ f, g)
 
--- ---- for the proof of `take`
+-- ---- case by case: taking
 module _ (t : Table) (m : List ℕ) (last n k : ℕ) (x : Loaded) where
-  pub take_short : n < 6 → Not 65549 ≡ take_of t m last n k x
+  pub take_short : n < 6 → Err ChainShort ≡ take_of t m last n k x
   unfolding take_of
   take_short h = rw (lt-leb _ _ h)
 
-  pub take_no_room : 6 ≤ n → k < 3 → Not 65551 ≡ take_of t m last n k x
+  pub take_no_room : 6 ≤ n → k < 3 → Err NoRoom ≡ take_of t m last n k x
   unfolding take_of
   take_no_room h l = rw (le-leb _ _ h, lt-leb _ _ l)
 
@@ -215,11 +229,11 @@ length-triples [] = refl
 length-triples (e ∷ ds) = omega (arith, length-triples ds)
 
 module _ (t : Table) (m : List ℕ) (c : DescriptorChain) where
-  walk_more : (k : ℕ) (d : Descriptor) (r : DescriptorChain) → step_of t m c ≡ Next d r → (walk (suc k) t m c ≡ d ∷ walk k t m r) × (rest (suc k) t m c ≡ rest k t m r)
+  walk_more : (k : ℕ) (d : Descriptor) (r : DescriptorChain) → step_of t m c ≡ Some (d, r) → (walk (suc k) t m c ≡ d ∷ walk k t m r) × (rest (suc k) t m c ≡ rest k t m r)
   unfolding walk rest
   walk_more k d r e = (rw e, rw e)
 
-  walk_over : (k : ℕ) → step_of t m c ≡ End → (walk k t m c ≡ []) × (rest k t m c ≡ c)
+  walk_over : (k : ℕ) → step_of t m c ≡ None → (walk k t m c ≡ []) × (rest k t m c ≡ c)
   unfolding walk rest
   walk_over zero e = (refl, refl)
   walk_over (suc k) e = (rw e, rw e)
@@ -229,47 +243,42 @@ module _ (t : Table) (m : List ℕ) (c : DescriptorChain) where
   walk_full = (refl, refl)
 
 -- so many descriptors were seen, and stand in the array
-pub record Going (t : Table) (m : List ℕ) (start : DescriptorChain) (out₀ : List ℕ) (c : DescriptorChain) (count at left : ℕ) (out : List ℕ) : Type 0 where
+pub record Going (t : Table) (m : List ℕ) (start : DescriptorChain) (out₀ : List ℕ) (c : DescriptorChain) (k : ℕ) (out : List ℕ) : Type 0 where
   pub seen : List Descriptor
-  pub walked : walk (room out₀) t m start ≡ seen ++ walk left t m c
-  pub onward : rest (room out₀) t m start ≡ rest left t m c
-  pub counted : length seen ≡ count
+  pub walked : walk (room out₀) t m start ≡ seen ++ walk (room out₀ - k) t m c
+  pub onward : rest (room out₀) t m start ≡ rest (room out₀ - k) t m c
+  pub counted : length seen ≡ k
   pub array : out ≡ sets out₀ 0 (triples seen)
   pub same : length out ≡ length out₀
-  pub place : at ≡ 3 * count
-  pub space : at + 3 * left ≤ length out₀
-  pub ration : count + c.ttl ≤ start.ttl
+  pub space : k ≤ room out₀
+  pub ration : k + c.ttl ≤ start.ttl
 
-pub going_start : (t : Table) (m : List ℕ) (c : DescriptorChain) (out : List ℕ) → Going t m c out c 0 0 (room out) out
+pub going_start : (t : Table) (m : List ℕ) (c : DescriptorChain) (out : List ℕ) → Going t m c out c 0 out
 going_start t m c out =
-    record { seen = []; walked = refl; onward = refl; counted = refl; array = refl; same = refl; place = refl; space = omega arith; ration = omega arith }
+    record { seen = []; walked = rw sub-zero; onward = rw sub-zero; counted = refl; array = refl; same = refl; space = omega arith; ration = omega arith }
 
-module _ (t : Table) (m : List ℕ) (start : DescriptorChain) (out₀ : List ℕ) (c : DescriptorChain) (count at left : ℕ) (out : List ℕ)
-    (g : Going t m start out₀ c count at left out) where
-  pub going_next : (d : Descriptor) (r : DescriptorChain) → step_of t m c ≡ Next d r → 0 < left → (out' : List ℕ) → out' ≡ sets out at (triple d)
-      → Going t m start out₀ r (count + 1) (at + 3) (left - 1) out'
+module _ (t : Table) (m : List ℕ) (start : DescriptorChain) (out₀ : List ℕ) (c : DescriptorChain) (k : ℕ) (out : List ℕ) (g : Going t m start out₀ c k out) where
+  pub going_next : (d : Descriptor) (r : DescriptorChain) → step_of t m c ≡ Some (d, r) → k < room out₀ → (out' : List ℕ) → out' ≡ sets out (3 * k) (triple d)
+      → Going t m start out₀ r (k + 1) out'
   going_next d r e h out' f =
-      let l : left ≡ suc (left - 1) = omega arith in
-      let w = walk_more t m c (left - 1) d r e in
-      let p = g.place in
-      let s = g.space in
+      let l : room out₀ - k ≡ suc (room out₀ - (k + 1)) = omega arith in
+      let w = walk_more t m c (room out₀ - (k + 1)) d r e in
       let n = g.counted in
       let x = length_more g.seen d in
-      let z : at ≡ 0 + length (triples g.seen) = omega (arith, length-triples g.seen, p, n) in
+      let z : 3 * k ≡ 0 + length (triples g.seen) = omega (arith, length-triples g.seen, n) in
       record {
         seen = g.seen ++ (d ∷ []);
-        walked = g.walked ∙ ap (λ (k : ℕ). g.seen ++ walk k t m c) l ∙ ap (λ (ds : List Descriptor). g.seen ++ ds) w.0 ∙ one_more g.seen d (walk (left - 1) t m r);
-        onward = g.onward ∙ ap (λ (k : ℕ). rest k t m c) l ∙ w.1;
+        walked = g.walked ∙ ap (λ (j : ℕ). g.seen ++ walk j t m c) l ∙ ap (λ (ds : List Descriptor). g.seen ++ ds) w.0 ∙ one_more g.seen d (walk (room out₀ - (k + 1)) t m r);
+        onward = g.onward ∙ ap (λ (j : ℕ). rest j t m c) l ∙ w.1;
         counted = omega arith;
-        array = f ∙ ap (λ (o : List ℕ). sets o at (triple d)) g.array ∙ ap (λ (i : ℕ). sets (sets out₀ 0 (triples g.seen)) i (triple d)) z
+        array = f ∙ ap (λ (o : List ℕ). sets o (3 * k) (triple d)) g.array ∙ ap (λ (i : ℕ). sets (sets out₀ 0 (triples g.seen)) i (triple d)) z
             ∙ sym (sets-append out₀ 0 (triples g.seen) (triple d)) ∙ ap (sets out₀ 0) (sym (triples_more g.seen d));
-        same = ap length f ∙ length-sets out at (triple d) ∙ g.same;
-        place = omega arith;
+        same = ap length f ∙ length-sets out (3 * k) (triple d) ∙ g.same;
         space = omega arith;
         ration = let y = (step_falls t m c d r e).ration in let v = g.ration in omega arith;
       }
 
-  going_done : (walk left t m c ≡ []) × (rest left t m c ≡ c) → Filled t m start out₀ (record { count = count; chain = c }) out
+  going_done : (walk (room out₀ - k) t m c ≡ []) × (rest (room out₀ - k) t m c ≡ c) → Filled t m start out₀ (record { count = k; chain = c }) out
   going_done w =
       let v : walk (room out₀) t m start ≡ g.seen = g.walked ∙ ap (λ (ds : List Descriptor). g.seen ++ ds) w.0 ∙ append_none g.seen in
       record {
@@ -278,8 +287,12 @@ module _ (t : Table) (m : List ℕ) (start : DescriptorChain) (out₀ : List ℕ
         array = g.array ∙ sym (ap (λ (ds : List Descriptor). sets out₀ 0 (triples ds)) v);
       }
 
-  pub going_end : step_of t m c ≡ End → Filled t m start out₀ (record { count = count; chain = c }) out
-  going_end e = going_done (walk_over t m c left e)
+  pub going_end : step_of t m c ≡ None → Filled t m start out₀ (record { count = k; chain = c }) out
+  going_end e = going_done (walk_over t m c (room out₀ - k) e)
 
-  pub going_full : left ≤ 0 → Filled t m start out₀ (record { count = count; chain = c }) out
-  going_full h = let z : left ≡ 0 = omega arith in going_done (rw z (walk_full t m c))
+  pub going_full : room out₀ ≤ k → Filled t m start out₀ (record { count = room out₀; chain = c }) out
+  going_full h =
+      let z : room out₀ - k ≡ 0 = omega arith in
+      let e : k ≡ room out₀ = omega (arith, g.space) in
+      let w = going_done (rw z (walk_full t m c)) in
+      record { count = sym e ∙ w.count; chain = w.chain; array = w.array }

@@ -1,35 +1,61 @@
 -- SPDX-License-Identifier: Apache-2.0 AND BSD-3-Clause
 -- What checking a line finds. Assumes nothing.
-use Rattle.std.specs.Prelude.{ℕ, ◌≤◌, ◌≡◌}
-use Rattle.script.specs.declared.commands.Command.{Command}
-use Rattle.lines.specs.declared.checks.Checked.{Checked}
-use Rattle.lines.specs.declared.checks.Checked.TheVariants as checked
+use Rattle.std.specs.Prelude.{ℕ, ◌≤◌, ◌≡◌, Option, Some, None, Result, Ok, Err}
+use Rattle.lines.specs.declared.state.Fault.{Fault}
+use Rattle.lines.specs.declared.checks.Work.{Work}
+use Rattle.lines.specs.declared.checks.Work.TheVariants as work
+use Rattle.lines.specs.declared.checks.Ready.{Ready}
+
+-- work on a part of the image has that part in an image of this size
+abbrev pub Inside : ℕ → Work → Type 0
+Inside size work.Whole = Unit {0}
+Inside size (work.Place start end) = (start ≤ end) × (end ≤ size)
+Inside size work.Make = Unit {0}
+Inside size (work.Config q) = Unit {0}
+Inside size (work.Avail q) = Unit {0}
+Inside size (work.Used q) = Unit {0}
+Inside size (work.Pass q pass) = Unit {0}
+Inside size (work.Chain walked) = Unit {0}
 
 -- a command on a part of the image has that part in an image of this size
-abbrev pub InImage : ℕ → Checked → Type 0
-InImage size checked.Silent = Unit {0}
-InImage size (checked.Bad f) = Unit {0}
-InImage size (checked.Whole c) = Unit {0}
-InImage size (checked.Place c start end) = (start ≤ end) × (end ≤ size)
-InImage size (checked.Call call) = Unit {0}
+abbrev pub InImage : ℕ → Result (Option Ready) Fault → Type 0
+InImage size (Err f) = Unit {0}
+InImage size (Ok None) = Unit {0}
+InImage size (Ok (Some r)) = Inside size r.work
 
 -- no command on a part of the image
-abbrev pub NoPlace : Checked → Type 0
-NoPlace checked.Silent = Unit {0}
-NoPlace (checked.Bad f) = Unit {0}
-NoPlace (checked.Whole c) = Unit {0}
-NoPlace (checked.Place c start end) = ⊥
-NoPlace (checked.Call call) = Unit {0}
+abbrev pub HasNoPlace : Work → Type 0
+HasNoPlace work.Whole = Unit {0}
+HasNoPlace (work.Place start end) = ⊥
+HasNoPlace work.Make = Unit {0}
+HasNoPlace (work.Config q) = Unit {0}
+HasNoPlace (work.Avail q) = Unit {0}
+HasNoPlace (work.Used q) = Unit {0}
+HasNoPlace (work.Pass q pass) = Unit {0}
+HasNoPlace (work.Chain walked) = Unit {0}
+
+abbrev pub NoPlace : Result (Option Ready) Fault → Type 0
+NoPlace (Err f) = Unit {0}
+NoPlace (Ok None) = Unit {0}
+NoPlace (Ok (Some r)) = HasNoPlace r.work
 
 -- ---- laws
 
-pub in_image : (size : ℕ) (r : Checked) → NoPlace r → InImage size r
-in_image size checked.Silent h = tt
-in_image size (checked.Bad f) h = tt
-in_image size (checked.Whole c) h = tt
-in_image size (checked.Place c start end) h = elim h [ ]
-in_image size (checked.Call call) h = tt
+inside : (size : ℕ) (w : Work) → HasNoPlace w → Inside size w
+inside size work.Whole h = tt
+inside size (work.Place start end) h = elim h [ ]
+inside size work.Make h = tt
+inside size (work.Config q) h = tt
+inside size (work.Avail q) h = tt
+inside size (work.Used q) h = tt
+inside size (work.Pass q pass) h = tt
+inside size (work.Chain walked) h = tt
 
-pub place_in : (size : ℕ) (r : Checked) {c : Command} {start end : ℕ} → InImage size r → r ≡ checked.Place c start end
-    → (start ≤ end) × (end ≤ size)
-place_in size r h e = rw e at h
+pub in_image : (size : ℕ) (r : Result (Option Ready) Fault) → NoPlace r → InImage size r
+in_image size (Err f) h = tt
+in_image size (Ok None) h = tt
+in_image size (Ok (Some r)) h = inside size r.work h
+
+pub place_in : (size : ℕ) (r : Result (Option Ready) Fault) {ready : Ready} {start end : ℕ} → InImage size r → r ≡ Ok (Some ready)
+    → ready.work ≡ work.Place start end → (start ≤ end) × (end ≤ size)
+place_in size r {ready} h e p = let inside : Inside size ready.work = rw e at h in rw p at inside

@@ -1,2 +1,4 @@
 -- SPDX-License-Identifier: Apache-2.0 AND BSD-3-Clause
+pub mod Answers
 pub mod Found
+pub mod Read

@@ -1,193 +1,130 @@
 // SPDX-License-Identifier: Apache-2.0 AND BSD-3-Clause
 // A line, or its error. Every error of the language is found here, where there is neither an image nor a table to change.
-ghost use Rattle.lines.specs.Found.{InImage, NoPlace};
+ghost use Rattle.std.specs.Prelude.{IfOk};
+ghost use Rattle.lines.specs.Found.{InImage, Inside};
 
-use crate::forms::Needs;
-use crate::state::{CurrentChain, CurrentPass, CurrentQueue, Fault, State};
-use crate::{forms, reading};
+use crate::reading::Numbers;
+use crate::state::{Fault, State};
 use chain::DescriptorChain;
 use queue::{AvailIter, Queue};
 use script::commands::Command;
-use script::words::Word;
 
 pub const LONGEST_LINE: usize = 4095;
 
-// A line that can be run, with what it needs; or why it can't.
-#[derive(Clone, Copy)]
-pub enum Checked {
-    Silent,
-    Bad(Fault),
-    // `memory`, `region`, `sum`
-    Whole(Command),
-    // a command on the bytes of the image from a place up to another
-    Place(Command, usize, usize),
-    Call(Call),
+// A line that can be run.
+#[derive(Drop)]
+pub struct Ready {
+    pub command: Command,
+    pub numbers: Numbers,
+    pub work: Work,
 }
 
-// A command of the device, with what it works on.
+// What a command works on.
 #[derive(Clone, Copy)]
-pub enum Call {
+pub enum Work {
+    // nothing but the image
+    Whole,
+    // the bytes of the image from a place up to another: no slice, since the image is the program's to change
+    Place(usize, usize),
+    // nothing: `queue` makes what the others need
     Make,
-    Config(Command, Queue),
-    Avail(Command, Queue),
-    Used(Command, Queue),
-    // `head`
+    // a queue: to configure it, to take from it, to give back to it
+    Config(Queue),
+    Avail(Queue),
+    Used(Queue),
     Pass(Queue, AvailIter),
-    Chain(Command, DescriptorChain),
+    Chain(DescriptorChain),
 }
 
-// A line's command goes by its first word. The numbers of a line that is no error are in `numbers`.
-pub fn check_line(line: &[u8], size: usize, st: State, numbers: &mut [u64]) -> Checked
+// A line's command goes by its first word; a line without words is none.
+pub fn check_line(line: &[u8], size: usize, st: State) -> Result<Option<Ready>, Fault>
     ensures { InImage size result }
 {
     if LONGEST_LINE < line.len() {
-        return Checked::Bad(Fault::TooLong);
+        return Err(Fault::TooLong);
     }
-    match script::words::next_word(line, 0) {
-        Word::At(start, end) => check_command(
-            line,
-            end,
-            script::commands::command_at(line, start, end),
-            size,
-            st,
-            numbers,
+    match script::words::next_word(line) {
+        Some((word, rest)) => check_command(word, rest, size, st),
+        None => Ok(None),
+    }
+}
+
+fn check_command(word: &[u8], rest: &[u8], size: usize, st: State) -> Result<Option<Ready>, Fault>
+    ensures { InImage size result }
+{
+    let command = script::commands::command_of(word).ok_or(Fault::UnknownCommand)?;
+    let numbers = Numbers::read(rest, command)?;
+    let work = work_of(command, &numbers, size, st)?;
+    Ok(Some(Ready {
+        command,
+        numbers,
+        work,
+    }))
+}
+
+// What a command works on: a match, since a line that was checked is data.
+fn work_of(c: Command, numbers: &Numbers, size: usize, st: State) -> Result<Work, Fault>
+    ensures { IfOk result (Inside size) }
+{
+    match c {
+        Command::Memory | Command::Region | Command::Sum => Ok(Work::Whole),
+        Command::Bytes
+        | Command::Fill
+        | Command::U16
+        | Command::U32
+        | Command::U64
+        | Command::Desc
+        | Command::Dump => place(size, numbers.get(0), extent(c, numbers)),
+        Command::Queue => Ok(Work::Make),
+        Command::Size
+        | Command::Table
+        | Command::Avail
+        | Command::Used
+        | Command::Ready
+        | Command::Event
+        | Command::NextAvail
+        | Command::NextUsed
+        | Command::Reset => Ok(Work::Config(queue(st)?)),
+        Command::Valid | Command::Begin | Command::Pop | Command::Back | Command::Chain => Ok(
+            Work::Avail(queue(st)?),
         ),
-        Word::NoMore => Checked::Silent,
-    }
-}
-
-fn check_command(
-    line: &[u8],
-    from: usize,
-    c: Command,
-    size: usize,
-    st: State,
-    numbers: &mut [u64],
-) -> Checked
-    ensures { InImage size result }
-{
-    let needs = forms::needs_of(c);
-    match needs {
-        Needs::Unknown => Checked::Bad(Fault::UnknownCommand),
-        _ => check_words(line, from, c, needs, size, st, numbers),
-    }
-}
-
-fn check_words(
-    line: &[u8],
-    from: usize,
-    c: Command,
-    needs: Needs,
-    size: usize,
-    st: State,
-    numbers: &mut [u64],
-) -> Checked
-    ensures { InImage size result }
-{
-    let words = reading::count_words(line, from);
-    if words < forms::least_of(c) {
-        return Checked::Bad(Fault::WrongWords);
-    }
-    if forms::most_of(c) < words {
-        return Checked::Bad(Fault::WrongWords);
-    }
-    if !reading::read_numbers(line, from, words, forms::kinds_of(c), numbers) {
-        return Checked::Bad(Fault::NotNumber);
-    }
-    check_needs(c, needs, words, size, st, numbers)
-}
-
-fn check_needs(
-    c: Command,
-    needs: Needs,
-    words: usize,
-    size: usize,
-    st: State,
-    numbers: &[u64],
-) -> Checked
-    ensures { InImage size result }
-{
-    match needs {
-        Needs::Whole => Checked::Whole(c),
-        Needs::Place => check_place(
-            c,
-            size,
-            reading::number(numbers, 0),
-            extent(c, words, numbers),
+        Command::Put | Command::Stop | Command::Ask | Command::Question | Command::State => Ok(
+            Work::Used(queue(st)?),
         ),
-        Needs::Make => Checked::Call(Call::Make),
-        _ => check_queue(c, needs, st),
+        Command::Head => Ok(Work::Pass(queue(st)?, st.pass.ok_or(Fault::NoPass)?)),
+        Command::Next | Command::Readable | Command::Writable | Command::Walk => {
+            queue(st)?;
+            Ok(Work::Chain(st.chain.ok_or(Fault::NoChain)?))
+        }
     }
+}
+
+fn queue(st: State) -> Result<Queue, Fault> {
+    st.queue.ok_or(Fault::NoQueue)
 }
 
 // How many bytes of the image a command takes.
-fn extent(c: Command, words: usize, numbers: &[u64]) -> u64 {
+fn extent(c: Command, numbers: &Numbers) -> u64 {
     match c {
-        Command::Bytes => minus_one(words),
+        Command::Bytes => (numbers.len() as u64).saturating_sub(1),
         Command::U16 => 2,
         Command::U32 => 4,
         Command::U64 => 8,
         Command::Desc => 16,
-        _ => reading::number(numbers, 1),
+        _ => numbers.get(1),
     }
 }
 
-fn minus_one(words: usize) -> u64 {
-    if words == 0 { 0 } else { (words - 1) as u64 }
-}
-
-// The test has no sum that could pass 2^64.
-fn check_place(c: Command, size: usize, offset: u64, count: u64) -> Checked
-    ensures { InImage size result }
+// The part of an image of this size. The test has no sum that could pass 2^64.
+fn place(size: usize, offset: u64, count: u64) -> Result<Work, Fault>
+    ensures { IfOk result (Inside size) }
 {
     let all = size as u64;
     if all < offset {
-        return Checked::Bad(Fault::OutsideImage);
+        return Err(Fault::OutsideImage);
     }
     if all - offset < count {
-        return Checked::Bad(Fault::OutsideImage);
+        return Err(Fault::OutsideImage);
     }
-    Checked::Place(c, offset as usize, (offset + count) as usize)
-}
-
-fn check_queue(c: Command, needs: Needs, st: State) -> Checked
-    ensures { NoPlace result }
-{
-    let current = st.queue;
-    match current {
-        CurrentQueue::Queue(q) => check_current(c, needs, q, st),
-        CurrentQueue::NoQueue => Checked::Bad(Fault::NoQueue),
-    }
-}
-
-fn check_current(c: Command, needs: Needs, q: Queue, st: State) -> Checked
-    ensures { NoPlace result }
-{
-    match needs {
-        Needs::Config => Checked::Call(Call::Config(c, q)),
-        Needs::Avail => Checked::Call(Call::Avail(c, q)),
-        Needs::Used => Checked::Call(Call::Used(c, q)),
-        Needs::Pass => check_pass(q, st),
-        _ => check_chain(c, st),
-    }
-}
-
-fn check_pass(q: Queue, st: State) -> Checked
-    ensures { NoPlace result }
-{
-    let current = st.pass;
-    match current {
-        CurrentPass::Pass(pass) => Checked::Call(Call::Pass(q, pass)),
-        CurrentPass::NoPass => Checked::Bad(Fault::NoPass),
-    }
-}
-
-fn check_chain(c: Command, st: State) -> Checked
-    ensures { NoPlace result }
-{
-    let current = st.chain;
-    match current {
-        CurrentChain::Chain(walked) => Checked::Call(Call::Chain(c, walked)),
-        CurrentChain::NoChain => Checked::Bad(Fault::NoChain),
-    }
+    Ok(Work::Place(offset as usize, (offset + count) as usize))
 }

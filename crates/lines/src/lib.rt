@@ -4,6 +4,6 @@
 #![tactic(auto)]
 
 pub mod state; // state.rt: what a line may find and leave
-mod forms; // forms.rt: which words each command takes, and what it needs
+mod forms; // forms.rt: which words each command takes
 pub mod reading; // reading.rt: the words of a line as numbers
 pub mod checks; // checks.rt: a line, or its error

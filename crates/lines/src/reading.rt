@@ -1,125 +1,109 @@
 // SPDX-License-Identifier: Apache-2.0 AND BSD-3-Clause
-// The words after a command, counted and read as numbers.
+// The words after a command, read as its numbers.
+ghost use Rattle.std.specs.Prelude.{◌≡◌, ◌%◌, ◌<◌, ◌≤◌, ◌^◌, length, IfOk, SomeIff, not, eqb};
+ghost use Rattle.lines.specs.Read.{number_at};
+
 use crate::forms;
-use script::numbers::Number;
-use script::words::Word;
+use crate::forms::Kind;
+use crate::state::Fault;
+use arrayvec::ArrayVec;
+use script::commands::Command;
+use script::words::Words;
 
-// Stands for a `-`: a half is below it.
-pub const NOT_GIVEN: u64 = 4294967296;
-
-// How many words there are from a place on, up to one more than any command takes.
-pub fn count_words(line: &[u8], from: usize) -> usize {
-    let mut place = from;
-    let mut count: usize = 0;
-    while count < 66 {
-        match script::words::next_word(line, place) {
-            Word::At(_, end) => {
-                place = end;
-                count += 1;
-            }
-            Word::NoMore => {
-                return count;
-            }
-        }
-    }
-    count
+// The numbers of a line. There is room for the most that a command takes.
+#[derive(Drop)]
+pub struct Numbers {
+    pub values: ArrayVec<u64, 65>,
 }
 
-// The largest number of a kind.
-fn largest(kind: u64) -> u64 {
+// Stands for a `-`, in this file alone: a half is below it. Options in place of the numbers would be no plainer, since two at most can be `-`.
+const NOT_GIVEN: u64 = 0x1_0000_0000;
+
+impl Numbers {
+    // The words of a line after its command become numbers, from left to right.
+    pub fn read(words: &[u8], c: Command) -> Result<Numbers, Fault>
+        ensures { IfOk result (λ n. length n.values.items ≤ 65) }
+    {
+        let len = Words(words).count();
+        if len < forms::kinds_of(c).len() || forms::most_of(c) < len {
+            return Err(Fault::WrongWords);
+        }
+        let mut values = ArrayVec::new();
+        for (i, word) in Words(words).enumerate() {
+            let value = read_kind(word, kind_at(c, i)).ok_or(Fault::NotNumber)?;
+            // there is room for as many as most_of says
+            let _ = values.try_push(value);
+        }
+        Ok(Numbers { values })
+    }
+
+    pub fn len(&self) -> usize
+        ensures { result ≡ length self.now.values.items }
+    {
+        self.values.len()
+    }
+
+    // Number i; 0 where the line has none.
+    pub fn get(&self, i: usize) -> u64
+        ensures { result ≡ number_at self.now i }
+    {
+        self.values.get(i).copied().unwrap_or(0)
+    }
+
+    // A number of its kind fits: reading has seen to it. Three of one shape, since std has no trait over casts.
+    pub fn byte(&self, i: usize) -> u8
+        ensures { result ≡ number_at self.now i % 2 ^ 8 }
+    {
+        (self.get(i) % 0x100) as u8
+    }
+
+    pub fn u16(&self, i: usize) -> u16
+        ensures { result ≡ number_at self.now i % 2 ^ 16 }
+    {
+        (self.get(i) % 0x1_0000) as u16
+    }
+
+    pub fn u32(&self, i: usize) -> u32
+        ensures { result ≡ number_at self.now i % 2 ^ 32 }
+    {
+        (self.get(i) % 0x1_0000_0000) as u32
+    }
+
+    pub fn bit(&self, i: usize) -> bool
+        ensures { result ≡ not (eqb (number_at self.now i) 0) }
+    {
+        self.get(i) != 0
+    }
+
+    // A half that is given; none where `-` stands.
+    pub fn half(&self, i: usize) -> Option<u32>
+        ensures { SomeIff result (number_at self.now i < 2 ^ 32) (number_at self.now i) }
+    {
+        u32::try_from(self.get(i)).ok()
+    }
+}
+
+// The last kind goes on.
+fn kind_at(c: Command, i: usize) -> Kind {
+    let kinds = forms::kinds_of(c);
+    kinds.get(i).or(kinds.last()).copied().unwrap_or(Kind::U64)
+}
+
+// The number that a word says, where it is one of its kind.
+fn read_kind(word: &[u8], kind: Kind) -> Option<u64> {
+    match (kind, word) {
+        (Kind::Half, [b'-']) => Some(NOT_GIVEN),
+        _ => script::numbers::read_number(word).filter(|n| *n <= largest(kind)),
+    }
+}
+
+fn largest(kind: Kind) -> u64 {
     match kind {
-        forms::BYTE => 255,
-        forms::U16 => 65535,
-        forms::BIT => 1,
-        forms::U32 | forms::HALF => 4294967295,
-        forms::COUNT => 256,
-        _ => 18446744073709551615,
+        Kind::Byte => 255,
+        Kind::U16 => 65535,
+        Kind::Bit => 1,
+        Kind::U32 | Kind::Half => 0xFFFF_FFFF,
+        Kind::Count => 256,
+        Kind::U64 => u64::MAX,
     }
-}
-
-fn is_dash(line: &[u8], start: usize, end: usize) -> bool {
-    if start >= line.len() {
-        return false;
-    }
-    if start + 1 != end {
-        return false;
-    }
-    line[start] == b'-'
-}
-
-fn within(n: Number, most: u64) -> Number {
-    match n {
-        Number::Value(v) => {
-            if v <= most {
-                Number::Value(v)
-            } else {
-                Number::NotNumber
-            }
-        }
-        Number::NotNumber => Number::NotNumber,
-    }
-}
-
-fn read_kind(line: &[u8], start: usize, end: usize, kind: u64) -> Number {
-    if kind == forms::HALF {
-        if is_dash(line, start, end) {
-            return Number::Value(NOT_GIVEN);
-        }
-    }
-    within(
-        script::numbers::read_number(line, start, end),
-        largest(kind),
-    )
-}
-
-// A number goes to its place among the others; the place after it.
-fn put_number(numbers: &mut [u64], i: usize, v: u64) -> usize {
-    if i < numbers.len() {
-        numbers[i] = v;
-        i + 1
-    } else {
-        i
-    }
-}
-
-fn kinds_after(kinds: u64) -> u64 {
-    if kinds < 16 { kinds } else { kinds / 16 }
-}
-
-// The words from a place on become numbers, from left to right; false where one is none, or too large.
-pub fn read_numbers(
-    line: &[u8],
-    from: usize,
-    words: usize,
-    all_kinds: u64,
-    numbers: &mut [u64],
-) -> bool {
-    let mut place = from;
-    let mut left = words;
-    let mut kinds = all_kinds;
-    let mut i = 0;
-    while 0 < left {
-        match script::words::next_word(line, place) {
-            Word::At(start, end) => match read_kind(line, start, end, kinds % 16) {
-                Number::Value(v) => {
-                    i = put_number(numbers, i, v);
-                    kinds = kinds_after(kinds);
-                    place = end;
-                    left -= 1;
-                }
-                Number::NotNumber => {
-                    return false;
-                }
-            },
-            Word::NoMore => {
-                return false;
-            }
-        }
-    }
-    true
-}
-
-// Number i of a line; 0 where it has none.
-pub fn number(numbers: &[u64], i: usize) -> u64 {
-    if i < numbers.len() { numbers[i] } else { 0 }
 }

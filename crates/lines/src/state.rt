@@ -1,41 +1,26 @@
 // SPDX-License-Identifier: Apache-2.0 AND BSD-3-Clause
 // What a replay knows between two lines, beside the image and the table of regions, and what a line answers.
-use adding::Adding;
+ghost use Rattle.std.specs.Prelude.{◌≡◌};
+ghost use Rattle.lines.specs.Answers.{yes_no};
+
+use adding::AddError;
 use chain::DescriptorChain;
 use desc::Descriptor;
 use queue::{AvailIter, Error, Queue};
 
 #[derive(Clone, Copy)]
-pub enum CurrentQueue {
-    Queue(Queue),
-    NoQueue,
-}
-
-#[derive(Clone, Copy)]
-pub enum CurrentPass {
-    Pass(AvailIter),
-    NoPass,
-}
-
-#[derive(Clone, Copy)]
-pub enum CurrentChain {
-    Chain(DescriptorChain),
-    NoChain,
-}
-
-#[derive(Clone, Copy)]
 pub struct State {
-    // The image's length.
+    // The image's length: it is the first bytes of the space, which the program has once (no heap).
     pub size: usize,
     // The table holds only the region that `memory` made: the next `region` replaces it.
     pub plain: bool,
-    pub queue: CurrentQueue,
-    pub pass: CurrentPass,
-    pub chain: CurrentChain,
+    pub queue: Option<Queue>,
+    pub pass: Option<AvailIter>,
+    pub chain: Option<DescriptorChain>,
 }
 
 // Why a line is an error, in the order of the tests.
-#[derive(Clone, Copy)]
+#[derive(Clone, Copy, Debug, PartialEq, Eq)]
 pub enum Fault {
     TooLong,
     UnknownCommand,
@@ -47,7 +32,7 @@ pub enum Fault {
     OutsideImage,
 }
 
-// What a command answers.
+// What a command answers: a case for each way in which it is printed.
 #[derive(Clone, Copy)]
 pub enum Answer {
     Fine,
@@ -56,16 +41,25 @@ pub enum Answer {
     Nothing,
     Refused,
     RefusedFor(Error),
-    // what became of a region
-    Region(Adding),
+    // why a region was refused
+    NotAdded(AddError),
     Number(u64),
     Sum(u32),
     // how many descriptors came, and the sum of their bytes
     Walked(u16, u32),
     Next(Descriptor),
     Fields(Queue),
-    // the bytes of the image from a place up to another
+    // the bytes of the image from a place up to another: two places and no slice, since the image is the program's to change until it is
+    // printed
     Bytes(usize, usize),
+}
+
+impl From<bool> for Answer {
+    ghost from_gives = { λ yes a. a ≡ yes_no yes };
+
+    fn from(yes: bool) -> Answer {
+        if yes { Answer::Yes } else { Answer::No }
+    }
 }
 
 // The state after a command, and its answer.
@@ -73,14 +67,6 @@ pub enum Answer {
 pub struct Done {
     pub state: State,
     pub answer: Answer,
-}
-
-// What became of a line. One without words and one that is an error hand back no state: the caller's own is still the one.
-#[derive(Clone, Copy)]
-pub enum Outcome {
-    Silent,
-    Wrong(Fault),
-    Ran(Done),
 }
 
 impl State {
@@ -94,71 +80,46 @@ impl State {
         State {
             size,
             plain: true,
-            queue: CurrentQueue::NoQueue,
-            pass: CurrentPass::NoPass,
-            chain: CurrentChain::NoChain,
+            queue: None,
+            pass: None,
+            chain: None,
         }
     }
 
     // A region came: the next one adds to the table.
     pub fn mapped(self) -> State {
-        let queue = self.queue;
-        let pass = self.pass;
-        let chain = self.chain;
         State {
-            size: self.size,
             plain: false,
-            queue,
-            pass,
-            chain,
+            ..self
         }
     }
 
     // The queue alone changes; pass and chain stay.
     pub fn with_queue(self, q: Queue) -> State {
-        let pass = self.pass;
-        let chain = self.chain;
         State {
-            size: self.size,
-            plain: self.plain,
-            queue: CurrentQueue::Queue(q),
-            pass,
-            chain,
+            queue: Some(q),
+            ..self
         }
     }
 
     // A queue that is new, or reset: pass and chain are dropped.
     pub fn afresh(self, q: Queue) -> State {
         State {
-            size: self.size,
-            plain: self.plain,
-            queue: CurrentQueue::Queue(q),
-            pass: CurrentPass::NoPass,
-            chain: CurrentChain::NoChain,
+            queue: Some(q),
+            pass: None,
+            chain: None,
+            ..self
         }
     }
 
-    pub fn with_pass(self, pass: CurrentPass) -> State {
-        let queue = self.queue;
-        let chain = self.chain;
-        State {
-            size: self.size,
-            plain: self.plain,
-            queue,
-            pass,
-            chain,
-        }
+    pub fn with_pass(self, pass: Option<AvailIter>) -> State {
+        State { pass, ..self }
     }
 
     pub fn with_chain(self, c: DescriptorChain) -> State {
-        let queue = self.queue;
-        let pass = self.pass;
         State {
-            size: self.size,
-            plain: self.plain,
-            queue,
-            pass,
-            chain: CurrentChain::Chain(c),
+            chain: Some(c),
+            ..self
         }
     }
 

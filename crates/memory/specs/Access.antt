@@ -5,7 +5,7 @@
 --   readable t size a n, writable t size a n   whether the n bytes from guest address a on can be read, written
 --   bytes_at t m a n                            the bytes that are read
 --   after t m a bs                             memory after bs was written there: as it was, if that is refused
---   read2_of, read16_of                          the answers of read2 and read16
+--   read_of n f t m a                             the answer of a read of n bytes, of which f makes a value; read2_of: of a number of 2 bytes
 -- The laws for callers, who never open a definition:
 --   after-length      a write keeps the length
 --   after_refused     a refused write changes nothing
@@ -15,26 +15,20 @@
 --   readable_all, all_readable   an access works if and only if each of its bytes is in memory
 --   bytes_are         the k-th byte is the one at the place of the k-th address   (Single t: no guest address has two places)
 -- and isolation: memories that agree at every place that the table maps (Agree)
---   bytes_agree, read2_agree, read16_agree     give equal answers
+--   bytes_agree, read_agree     give equal answers
 --   after_agree                                agree again after equal writes
 --   after_unmapped    a byte at a place that the table does not map is never changed
 --   after_elsewhere   nor is one whose guest address lies outside the write       (Good t)
-use Rattle.std.specs.Prelude.{ℕ, zero, suc, ◌+◌, ◌≤◌, ◌<◌, ◌^◌, ◌≡◌, Bool, true, false, ◌⊎◌, List, [], ◌∷◌, ◌++◌, length, get_or, ltb}
-use Rattle.std.proofs.Common.{add-zero, ap, ◌∙◌, true≢false, inl, inr}
+use Rattle.std.specs.Prelude.{ℕ, zero, suc, ◌+◌, ◌≤◌, ◌<◌, ◌^◌, ◌≡◌, Bool, true, false, Option, Some, None, is_some, ◌⊎◌, List, [], ◌∷◌, ◌++◌, length, get_or}
+use Rattle.std.proofs.Common.{ap, ◌∙◌, true≢false, inl, inr}
 use native.Mathlib.Omega.{arith}
 use Rattle.std.proofs.Math.Path.{refl, sym}
 use Rattle.std.proofs.lemmas.List.Edits.{sets}
 use Rattle.wire.specs.Number.{number, bytes}
-use Rattle.wire.specs.Part.{Apart, part, part-part, part-sets}
+use Rattle.wire.specs.Part.{Apart, part, part-sets}
 use Rattle.regions.specs.Table.{pick, Table, Maps, InMemory, Good, good_one, Single, single_one, maps_room}
-use Rattle.regions.specs.Spots.{spots, length-spots, whole, covered, covered_is, covered_run, covered_all, all_covered, past_covered, covered_top, RunAt, Mapped, spots_mapped}
+use Rattle.regions.specs.Spots.{spots, length-spots, whole, covered, covered_is, covered_run, covered_all, all_covered, past_covered, covered_top, Seated, RunAt, Mapped, spots_mapped}
 use Rattle.memory.specs.Cells.{fetch, store, length-fetch, length-store, fetch_run, store_run, Off, AllOff, Distinct, store_off, fetch_off, fetch_back, store_agree}
-use Rattle.regions.specs.declared.Place.{Place}
-use Rattle.regions.specs.declared.Place.TheVariants.{At, Nowhere}
-use Rattle.memory.specs.declared.Got2.{Got2}
-use Rattle.memory.specs.declared.Got2.TheVariants.{Value, Fault2}
-use Rattle.memory.specs.declared.Got16.{Got16}
-use Rattle.memory.specs.declared.Got16.TheVariants.{Fields, Fault16}
 
 -- ---- what contracts cite
 
@@ -64,33 +58,13 @@ pub record WroteBoth (t : Table) (m : List ℕ) (a : ℕ) (bs : List ℕ) (b : �
   pub ok : r ≡ pick (writable t (length m) a (length bs)) (writable t (length m) b (length cs)) false
   pub mem : m' ≡ pick r (after t (after t m a bs) b cs) m
 
+-- a read of n bytes, as the value that f makes of them
+unfoldable pub read_of : {A : Type 0} → ℕ → (List ℕ → A) → Table → List ℕ → ℕ → Option A
+read_of n f t m a = pick (readable t (length m) a n) (Some (f (bytes_at t m a n))) None
+
 -- a read of 2 bytes, as one number
-unfoldable pub read2_of : Table → List ℕ → ℕ → Got2
-read2_of t m a = pick (readable t (length m) a 2) (Value (number (bytes_at t m a 2))) Fault2
-
--- the answer of such a read that one number stands for
-abbrev pub decoded : ℕ → Got2
-decoded x = pick (ltb x 65536) (Value x) Fault2
-
--- numbers of 8, 4, 2 and 2 bytes side by side
-abbrev pub fields_of : List ℕ → Got16
-fields_of bs = Fields (number (part bs 0 8)) (number (part bs 8 4)) (number (part bs 12 2)) (number (part bs 14 2))
-
-unfoldable pub read16_of : Table → List ℕ → ℕ → Got16
-read16_of t m a = pick (readable t (length m) a 16) (fields_of (bytes_at t m a 16)) Fault16
-
--- the bytes of two numbers of 4 bytes, and of numbers of 8, 4, 2 and 2 bytes, side by side
-abbrev pub pair_bytes : ℕ → ℕ → List ℕ
-pair_bytes x y = bytes 4 x ++ bytes 4 y
-
-abbrev pub field_bytes : ℕ → ℕ → ℕ → ℕ → List ℕ
-field_bytes a b c d = bytes 8 a ++ bytes 4 b ++ bytes 2 c ++ bytes 2 d
-
--- ---- side by side
-pub fields_part : (l : List ℕ) (i : ℕ) → i + 16 ≤ length l
-    → fields_of (part l i 16) ≡ Fields (number (part l i 8)) (number (part l (i + 8) 4)) (number (part l (i + 12) 2)) (number (part l (i + 14) 2))
-fields_part l i h =
-    cc (part-part l i 16 0 8 (omega arith) h, add-zero i, part-part l i 16 8 4 (omega arith) h, part-part l i 16 12 2 (omega arith) h, part-part l i 16 14 2 (omega arith) h)
+abbrev pub read2_of : Table → List ℕ → ℕ → Option ℕ
+read2_of t m a = read_of 2 number t m a
 
 -- ---- readable, writable
 module _ (t : Table) (size a n : ℕ) where
@@ -154,15 +128,14 @@ bytes_ok t m a n e = rw e
 pub length-bytes_at : (t : Table) (m : List ℕ) (a n : ℕ) → readable t (length m) a n ≡ true → length (bytes_at t m a n) ≡ n
 length-bytes_at t m a n e = rw (bytes_ok t m a n e) (length-fetch m (spots t (length m) a n) ∙ length-spots t (length m) a n)
 
--- ---- read2_of, read16_of
-module _ (t : Table) (m : List ℕ) (a : ℕ) where
-  pub read2_is : read2_of t m a ≡ pick (readable t (length m) a 2) (Value (number (bytes_at t m a 2))) Fault2
-  unfolding read2_of
-  read2_is = refl
+-- ---- read_of
+module _ {A : Type 0} (n : ℕ) (f : List ℕ → A) (t : Table) (m : List ℕ) (a : ℕ) where
+  pub read_is : read_of n f t m a ≡ pick (readable t (length m) a n) (Some (f (bytes_at t m a n))) None
+  unfolding read_of
+  read_is = refl
 
-  pub read16_is : read16_of t m a ≡ pick (readable t (length m) a 16) (fields_of (bytes_at t m a 16)) Fault16
-  unfolding read16_of
-  read16_is = refl
+pub read2_is : (t : Table) (m : List ℕ) (a : ℕ) → read2_of t m a ≡ pick (readable t (length m) a 2) (Some (number (bytes_at t m a 2))) None
+read2_is t m a = read_is 2 number t m a
 
 -- ---- after
 pick-length : (b : Bool) (m ps : List ℕ) → length ps ≡ length m → length (pick b ps m) ≡ length m
@@ -182,6 +155,10 @@ unfolding after
 after_done t m a bs e = rw e
 
 -- ---- the fast way
+pub seated_covered : (t : Table) (size a n : ℕ) (p : Option ℕ) → Seated t size a n p → is_some p ≡ true → covered t size a n ≡ true
+seated_covered t size a n (Some i) s h = covered_run t size a n i (s.at i refl)
+seated_covered t size a n None s h = absurd (true≢false (sym h))
+
 module _ (t : Table) (m : List ℕ) (a : ℕ) where
   pub readable_run : (n i : ℕ) → RunAt t (length m) a n i → readable t (length m) a n ≡ true
   readable_run n i e = readable_is t (length m) a n ∙ covered_run t (length m) a n i e
@@ -194,34 +171,46 @@ module _ (t : Table) (m : List ℕ) (a : ℕ) where
 
   pub after_run : (bs : List ℕ) (i : ℕ) → RunAt t (length m) a (length bs) i → after t m a bs ≡ sets m i bs
   after_run bs i e =
-      after_done t m a bs (writable_run (length bs) i e) ∙ ap (λ (ps : List Place). store m ps bs) e.is ∙ store_run m i bs
+      after_done t m a bs (writable_run (length bs) i e) ∙ ap (λ (ps : List (Option ℕ)). store m ps bs) e.is ∙ store_run m i bs
 
-  pub read2_run : (i : ℕ) → RunAt t (length m) a 2 i → read2_of t m a ≡ Value (number (part m i 2))
-  read2_run i e = rw (read2_is, readable_run 2 i e, bytes_run 2 i e)
+-- n is what the code has for the size k
+module _ {A : Type 0} (k : ℕ) (f : List ℕ → A) (t : Table) (m : List ℕ) (a n : ℕ) (e : n ≡ k) (i : ℕ) (r : RunAt t (length m) a n i) where
+  pub read_run : (x : A) → x ≡ f (part m i k) → Some x ≡ read_of k f t m a
+  read_run x h = let w : RunAt t (length m) a k i = rw e at r in rw (read_is, readable_run t m a k i w, bytes_run t m a k i w, h)
 
-  pub read16_run : (i : ℕ) → RunAt t (length m) a 16 i → read16_of t m a ≡ fields_of (part m i 16)
-  read16_run i e = rw (read16_is, readable_run 16 i e, bytes_run 16 i e)
+pub read2_run : (t : Table) (m : List ℕ) (a i : ℕ) → RunAt t (length m) a 2 i → read2_of t m a ≡ Some (number (part m i 2))
+read2_run t m a i e = rw (read2_is, readable_run t m a 2 i e, bytes_run t m a 2 i e)
+
+pub run_fits : (t : Table) (size a n k : ℕ) → n ≡ k → (i : ℕ) → RunAt t size a n i → i + k ≤ size
+run_fits t size a n k e i r = let w = r.fits in omega arith
 
 -- ---- the slow way
+module _ {A : Type 0} (k : ℕ) (f : List ℕ → A) (t : Table) (m : List ℕ) (a n : ℕ) (e : n ≡ k) (r : Bool) (o : r ≡ readable t (length m) a n) where
+  pub read_refused : r ≡ false → None ≡ read_of k f t m a
+  read_refused h = let w : r ≡ readable t (length m) a k = rw e at o in rw (read_is, sym w ∙ h)
+
+  pub read_slow : r ≡ true → (bs : List ℕ) → bs ≡ fetch m (spots t (length m) a k) → (x : A) → x ≡ f bs → Some x ≡ read_of k f t m a
+  read_slow h bs b x g =
+      let w : r ≡ readable t (length m) a k = rw e at o in rw (read_is, bytes_ok t m a k (sym w ∙ h), sym w ∙ h, g, b)
+
+-- at two bytes
 module _ (t : Table) (m : List ℕ) (a : ℕ) where
-  pub read2_slow : (r : Bool) → r ≡ readable t (length m) a 2 → r ≡ true → Value (number (fetch m (spots t (length m) a 2))) ≡ read2_of t m a
+  pub read2_slow : (r : Bool) → r ≡ readable t (length m) a 2 → r ≡ true → Some (number (fetch m (spots t (length m) a 2))) ≡ read2_of t m a
   read2_slow r e f = rw (read2_is, bytes_ok t m a 2 (sym e ∙ f), sym e ∙ f)
 
-  pub read2_refused : (r : Bool) → r ≡ readable t (length m) a 2 → r ≡ false → Fault2 ≡ read2_of t m a
+  pub read2_refused : (r : Bool) → r ≡ readable t (length m) a 2 → r ≡ false → None ≡ read2_of t m a
   read2_refused r e f = rw (read2_is, sym e ∙ f)
 
-  pub read16_slow : (r : Bool) → r ≡ readable t (length m) a 16 → r ≡ true → fields_of (fetch m (spots t (length m) a 16)) ≡ read16_of t m a
-  read16_slow r e f = rw (read16_is, bytes_ok t m a 16 (sym e ∙ f), sym e ∙ f)
-
-  pub read16_refused : (r : Bool) → r ≡ readable t (length m) a 16 → r ≡ false → Fault16 ≡ read16_of t m a
-  read16_refused r e f = rw (read16_is, sym e ∙ f)
+-- a buffer as long as the access
+pub buffer-covered : (t : Table) (size a n : ℕ) → covered t size a n ≡ true → (out : List ℕ) → length out ≡ n → covered t size a (length out) ≡ true
+buffer-covered t size a n c out e = rw e c
 
 -- ---- places of the table
 -- a place that the table maps from no address is none of them
-mapped_off : (t : Table) (size a : ℕ) (ps : List Place) (i : ℕ) → Mapped t size a ps → ((x : ℕ) → Maps t size x i → ⊥) → Off ps i
+mapped_off : (t : Table) (size a : ℕ) (ps : List (Option ℕ)) (i : ℕ) → Mapped t size a ps → ((x : ℕ) → Maps t size x i → ⊥) → Off ps i
 mapped_off t size a [] i h f = tt
-mapped_off t size a (At j ∷ ps) i h f = ((λ e. f a (rw e h.0)), mapped_off t size (suc a) ps i h.1 f)
-mapped_off t size a (Nowhere ∷ ps) i h f = mapped_off t size (suc a) ps i h f
+mapped_off t size a (Some j ∷ ps) i h f = ((λ e. f a (rw e h.0)), mapped_off t size (suc a) ps i h.1 f)
+mapped_off t size a (None ∷ ps) i h f = mapped_off t size (suc a) ps i h f
 
 -- x is none of the n addresses from a on
 abbrev pub Outside : ℕ → ℕ → ℕ → Type 0
@@ -233,30 +222,30 @@ outside_next x a n (inr h) = (inr (omega arith), (λ e. omega arith))
 
 module _ (t : Table) (g : Good t) (size : ℕ) where
   -- the place of an address outside the access is none of them
-  other_off : (a : ℕ) (ps : List Place) (x i : ℕ) → Mapped t size a ps → Maps t size x i → Outside x a (length ps) → Off ps i
+  other_off : (a : ℕ) (ps : List (Option ℕ)) (x i : ℕ) → Mapped t size a ps → Maps t size x i → Outside x a (length ps) → Off ps i
   other_off a [] x i h m o = tt
-  other_off a (At j ∷ ps) x i h m o =
+  other_off a (Some j ∷ ps) x i h m o =
       let w = outside_next x a (length ps) o in
       ((λ e. w.1 (good_one t g size x a j (rw e at m) h.0)), other_off (suc a) ps x i h.1 m w.0)
-  other_off a (Nowhere ∷ ps) x i h m o = other_off (suc a) ps x i h m (outside_next x a (length ps) o).0
+  other_off a (None ∷ ps) x i h m o = other_off (suc a) ps x i h m (outside_next x a (length ps) o).0
 
   -- the places of accesses apart are apart
   apart_next : (a n b k : ℕ) → Apart a n b (suc k) → Outside b a n × Apart a n (suc b) k
   apart_next a n b k (inl o) = (inr (omega arith), inl (omega arith))
   apart_next a n b k (inr o) = (inl (omega arith), inr (omega arith))
 
-  mapped_apart : (a : ℕ) (ps : List Place) (b : ℕ) (qs : List Place) → Mapped t size a ps → Mapped t size b qs → Apart a (length ps) b (length qs) → AllOff ps qs
+  mapped_apart : (a : ℕ) (ps : List (Option ℕ)) (b : ℕ) (qs : List (Option ℕ)) → Mapped t size a ps → Mapped t size b qs → Apart a (length ps) b (length qs) → AllOff ps qs
   mapped_apart a ps b [] h k o = tt
-  mapped_apart a ps b (At i ∷ qs) h k o =
+  mapped_apart a ps b (Some i ∷ qs) h k o =
       let w = apart_next a (length ps) b (length qs) o in
       (other_off a ps b i h k.0 w.0, mapped_apart a ps (suc b) qs h k.1 w.1)
-  mapped_apart a ps b (Nowhere ∷ qs) h k o = mapped_apart a ps (suc b) qs h k (apart_next a (length ps) b (length qs) o).1
+  mapped_apart a ps b (None ∷ qs) h k o = mapped_apart a ps (suc b) qs h k (apart_next a (length ps) b (length qs) o).1
 
-  mapped_distinct : (a : ℕ) (ps : List Place) → Mapped t size a ps → Distinct size ps
+  mapped_distinct : (a : ℕ) (ps : List (Option ℕ)) → Mapped t size a ps → Distinct size ps
   mapped_distinct a [] h = tt
-  mapped_distinct a (At i ∷ ps) h =
+  mapped_distinct a (Some i ∷ ps) h =
       (maps_room t size a i h.0, other_off (suc a) ps a i h.1 h.0 (inl (omega arith)), mapped_distinct (suc a) ps h.1)
-  mapped_distinct a (Nowhere ∷ ps) h = mapped_distinct (suc a) ps h
+  mapped_distinct a (None ∷ ps) h = mapped_distinct (suc a) ps h
 
 -- ---- a write leaves the bytes apart from it
 module _ (t : Table) (g : Good t) (m : List ℕ) (a : ℕ) (bs : List ℕ) (b n : ℕ) (h : Apart a (length bs) b n) where
@@ -295,13 +284,13 @@ bytes_back_run t m a bs i e =
     bytes_run t (after t m a bs) a (length bs) i (rw after-length e) ∙ rw (after_run t m a bs i e) (part-sets m i bs e.fits)
 
 -- ---- where no guest address has two places, the k-th byte is the one at the place of the k-th address, whatever the rows' order
-fetch_single : (t : Table) (s : Single t) (size a : ℕ) (ps : List Place) (m : List ℕ) → Mapped t size a ps → whole ps ≡ true
+fetch_single : (t : Table) (s : Single t) (size a : ℕ) (ps : List (Option ℕ)) (m : List ℕ) → Mapped t size a ps → whole ps ≡ true
     → (k x i : ℕ) → k < length ps → x ≡ a + k → Maps t size x i → get_or (fetch m ps) k 0 ≡ get_or m i 0
 fetch_single t s size a [] m h w k x i l e q = absurd (omega arith)
-fetch_single t s size a (Nowhere ∷ ps) m h w k x i l e q = absurd (true≢false (sym w))
-fetch_single t s size a (At j ∷ ps) m h w zero x i l e q =
+fetch_single t s size a (None ∷ ps) m h w k x i l e q = absurd (true≢false (sym w))
+fetch_single t s size a (Some j ∷ ps) m h w zero x i l e q =
     let z : x ≡ a = omega arith in ap (λ (y : ℕ). get_or m y 0) (single_one t s size a j i h.0 (rw z at q))
-fetch_single t s size a (At j ∷ ps) m h w (suc k) x i l e q = fetch_single t s size (suc a) ps m h.1 w k x i (omega arith) (omega arith) q
+fetch_single t s size a (Some j ∷ ps) m h w (suc k) x i l e q = fetch_single t s size (suc a) ps m h.1 w k x i (omega arith) (omega arith) q
 
 pub bytes_are : (t : Table) → Single t → (m : List ℕ) (a n : ℕ) → readable t (length m) a n ≡ true → (k i : ℕ) → k < n → Maps t (length m) (a + k) i → get_or (bytes_at t m a n) k 0 ≡ get_or m i 0
 bytes_are t s m a n o k i h q =
@@ -317,10 +306,10 @@ pub record Agree (t : Table) (m k : List ℕ) : Type 0 where
 pub agree_refl : (t : Table) (m : List ℕ) → Agree t m m
 agree_refl t m = record { sized = refl; at = λ a i h. refl }
 
-fetch_agree : (t : Table) (size a : ℕ) (ps : List Place) (m k : List ℕ) → Mapped t size a ps → ((x i : ℕ) → Maps t size x i → get_or m i 0 ≡ get_or k i 0) → fetch m ps ≡ fetch k ps
+fetch_agree : (t : Table) (size a : ℕ) (ps : List (Option ℕ)) (m k : List ℕ) → Mapped t size a ps → ((x i : ℕ) → Maps t size x i → get_or m i 0 ≡ get_or k i 0) → fetch m ps ≡ fetch k ps
 fetch_agree t size a [] m k h f = refl
-fetch_agree t size a (At i ∷ ps) m k h f = cc (f a i h.0, fetch_agree t size (suc a) ps m k h.1 f)
-fetch_agree t size a (Nowhere ∷ ps) m k h f = cc (fetch_agree t size (suc a) ps m k h f)
+fetch_agree t size a (Some i ∷ ps) m k h f = cc (f a i h.0, fetch_agree t size (suc a) ps m k h.1 f)
+fetch_agree t size a (None ∷ ps) m k h f = cc (fetch_agree t size (suc a) ps m k h f)
 
 module _ (t : Table) (m k : List ℕ) (h : Agree t m k) where
   pub bytes_agree : (a n : ℕ) → bytes_at t m a n ≡ bytes_at t k a n
@@ -328,13 +317,12 @@ module _ (t : Table) (m k : List ℕ) (h : Agree t m k) where
   bytes_agree a n =
       rw (← h.sized, fetch_agree t (length m) a (spots t (length m) a n) m k (spots_mapped t (length m) a n) h.at)
 
-  pub read2_agree : (a : ℕ) → read2_of t m a ≡ read2_of t k a
-  unfolding read2_of
-  read2_agree a = rw (h.sized, bytes_agree a 2)
+  pub read_agree : {A : Type 0} (n : ℕ) (f : List ℕ → A) (a : ℕ) → read_of n f t m a ≡ read_of n f t k a
+  unfolding read_of
+  read_agree n f a = rw (h.sized, bytes_agree a n)
 
-  pub read16_agree : (a : ℕ) → read16_of t m a ≡ read16_of t k a
-  unfolding read16_of
-  read16_agree a = rw (h.sized, bytes_agree a 16)
+  pub read2_agree : (a : ℕ) → read2_of t m a ≡ read2_of t k a
+  read2_agree a = read_agree 2 number a
 
   agree' : (c : Bool) (a : ℕ) (bs : List ℕ) (i : ℕ) → get_or m i 0 ≡ get_or k i 0
       → get_or (pick c (store m (spots t (length m) a (length bs)) bs) m) i 0 ≡ get_or (pick c (store k (spots t (length m) a (length bs)) bs) k) i 0

@@ -1,7 +1,7 @@
 -- SPDX-License-Identifier: Apache-2.0 AND BSD-3-Clause
 -- A pass ends (T1.7): from begin on, whatever the guest writes, it hands out at most as many heads as the queue has places, and one more for
 -- each step back.
-use Rattle.std.specs.Prelude.{◌≡◌, ℕ, ◌+◌, ◌%◌, ◌<◌, ◌≤◌, Bool, List, [], ◌∷◌, ◌≢◌, refl}
+use Rattle.std.specs.Prelude.{◌≡◌, ℕ, ◌+◌, ◌%◌, ◌<◌, ◌≤◌, Bool, List, [], ◌∷◌, ◌≢◌, refl, Option, Some, None, Ok}
 use Rattle.std.proofs.Math.Decide.{dec_le}
 use native.Mathlib.Omega.{arith}
 use Rattle.std.proofs.Common.{sym, ◌∙◌}
@@ -12,13 +12,9 @@ use Rattle.queue.specs.Avail.{begin_of, begin_elim, head_of, head_elim, back_of}
 use Rattle.queue.specs.Used.{put_of, put_elim}
 use Rattle.queue.specs.Notify.{question_of, question_elim}
 use Rattle.queue.specs.Config.{set_size_of, set_size_elim, set_desc_table_of, set_desc_table_elim, set_avail_ring_of, set_avail_ring_elim, set_used_ring_of, set_used_ring_elim}
-use Rattle.queue.specs.Proper.{OfConfigured, OfPlaced, OfAnswered}
-use Rattle.queue.specs.declared.Half.{Half}
+use Rattle.queue.specs.Proper.{OfConfigured, OfAnswered}
 use Rattle.queue.specs.declared.Queue.{Queue}
 use Rattle.queue.specs.declared.AvailIter.{AvailIter}
-use Rattle.queue.specs.declared.Begun.TheVariants.{Pass}
-use Rattle.queue.specs.declared.Taken.{Taken}
-use Rattle.queue.specs.declared.Taken.TheVariants.{Head, NoHead}
 
 -- ---- what can happen while a pass goes on: a next head, over whatever the guest has made of its memory and the VMM of its table; a step
 -- back; or any other call, which leaves next available as it is and anything else as it likes
@@ -27,13 +23,13 @@ pub data Step : Type 0 where
   Back : Step
   Other : Queue → Step
 
-abbrev pub queue_of : Queue → Taken → Queue
-queue_of q (Head h p) = p
-queue_of q NoHead = q
+abbrev pub queue_of : Queue → Option (ℕ × Queue) → Queue
+queue_of q (Some (h, p)) = p
+queue_of q None = q
 
-abbrev pub count_of : Taken → ℕ
-count_of (Head h p) = 1
-count_of NoHead = 0
+abbrev pub count_of : Option (ℕ × Queue) → ℕ
+count_of (Some (h, p)) = 1
+count_of None = 0
 
 -- the queue after a step
 abbrev pub then : Queue → AvailIter → Step → Queue
@@ -120,9 +116,9 @@ heads_left q p a b (s ∷ ss) =
     omega (arith, w.fall)
 
 -- what begin remembers is at most the size away
-pub begin_left : (t : Table) (q : Queue) (m : List ℕ) (p : AvailIter) → begin_of t q m ≡ Pass p → left q p ≤ q.size
+pub begin_left : (t : Table) (q : Queue) (m : List ℕ) (p : AvailIter) → begin_of t q m ≡ Ok p → left q p ≤ q.size
 begin_left t q m p x =
-    begin_elim t q m (λ r. r ≡ Pass p → left q p ≤ q.size)
+    begin_elim t q m (λ r. r ≡ Ok p → left q p ≤ q.size)
     (λ e y. absurd (let z : ◌≡◌ {A = ℕ} 0 1 = cc in omega arith)) (λ e y. absurd (let z : ◌≡◌ {A = ℕ} 0 1 = cc in omega arith))
     (λ r z e y. absurd (let z : ◌≡◌ {A = ℕ} 0 1 = cc in omega arith)) (λ i r z e h y. absurd (let z : ◌≡◌ {A = ℕ} 0 1 = cc in omega arith))
     (λ i r z e h y. let w : i ≡ p.last_index = cc in rw (← w) h) x
@@ -132,8 +128,8 @@ abbrev pub Keeps : Queue → Queue → Type 0
 Keeps q p = p.next_avail ≡ q.next_avail
 
 module _ (q : Queue) where
-  pub put_keeps : (t : Table) (m : List ℕ) (head n : ℕ) → OfPlaced (Keeps q) (put_of t q m head n)
-  put_keeps t m head n = put_elim t q m head n (λ r k. OfPlaced (Keeps q) r) (λ h. tt) (λ h e. tt) (λ h e f. refl)
+  pub put_keeps : (t : Table) (m : List ℕ) (head n : ℕ) → OfConfigured (Keeps q) (put_of t q m head n)
+  put_keeps t m head n = put_elim t q m head n (λ r k. OfConfigured (Keeps q) r) (λ h. tt) (λ h e. tt) (λ h e f. refl)
 
   pub question_keeps : (t : Table) (m : List ℕ) → OfAnswered (Keeps q) (question_of t q m)
   question_keeps t m = question_elim t q m (OfAnswered (Keeps q)) (λ e. refl) (λ e f. tt) (λ v e f. refl)
@@ -141,7 +137,7 @@ module _ (q : Queue) where
   pub set_size_keeps : (n : ℕ) → OfConfigured (Keeps q) (set_size_of q n)
   set_size_keeps n = set_size_elim q (OfConfigured (Keeps q)) n (λ e. refl) (λ e. tt)
 
-  module _ (low high : Half) where
+  module _ (low high : Option ℕ) where
     pub set_desc_table_keeps : OfConfigured (Keeps q) (set_desc_table_of q low high)
     set_desc_table_keeps = set_desc_table_elim q (OfConfigured (Keeps q)) low high (λ e. refl) (λ e. tt)
 
@@ -157,5 +153,5 @@ module _ (q : Queue) where
 -- From an accepted begin on, at most as many heads are handed out as the queue had places then, and one more for each step back. The two
 -- premises on numbers are those of the fields' type.
 pub pass_ends : (t : Table) (q : Queue) (m : List ℕ) (p : AvailIter) → q.next_avail < 65536 → p.last_index < 65536
-    → begin_of t q m ≡ Pass p → (ss : List Step) → heads q p ss ≤ q.size + backs ss
+    → begin_of t q m ≡ Ok p → (ss : List Step) → heads q p ss ≤ q.size + backs ss
 pass_ends t q m p a b x ss = omega (arith, heads_left q p a b ss, begin_left t q m p x)

@@ -1,13 +1,13 @@
 -- SPDX-License-Identifier: Apache-2.0 AND BSD-3-Clause
 -- Sizes of a split queue (VIRTIO 1.2, 2.7): a power of two, at most 32,768. The code's tests and masks decide and compute what is said here.
-use Rattle.std.specs.Prelude.{◌≡◌, ℕ, zero, suc, ◌+◌, ◌-◌, ◌*◌, ◌/◌, ◌%◌, ◌^◌, ◌<◌, ◌≤◌, min, Bool, true, false, ◌↔◌, ◌==◌, ◌≢◌, bit_and, nat_le, refl}
+use Rattle.std.specs.Prelude.{◌≡◌, ℕ, zero, suc, ◌+◌, ◌-◌, ◌*◌, ◌/◌, ◌%◌, ◌^◌, ◌<◌, ◌≤◌, min, Bool, true, false, ◌↔◌, ◌==◌, ◌≢◌, bit_and, count_ones, nat_le, refl}
 use Rattle.std.proofs.Math.Nat.{mod-zero, mod_self, pow-succ', pow-le-pow_right}
 use Rattle.std.proofs.Common.{mod-eq_of_lt, arith, sym, ap, ◌∙◌, true≢false, eq-eqb, eqb-true, le-leb, leb-true}
 use Rattle.std.proofs.Math.Decide.{dec_le}
 use Rattle.std.specs.Int.Bits.{and_step, and_self, and_zero_l}
-use Rattle.std.proofs.lemmas.Nat.{and_mask}
+use Rattle.std.specs.Int.Count.{ones_step}
+use Rattle.std.proofs.lemmas.Nat.{and_mask, ones_le_self, zero_from_ones}
 use Rattle.regions.specs.Table.{pick}
-use Rattle.queue.specs.Wrap.{sub16}
 
 -- a power of two
 abbrev pub Power : ℕ → Type 0
@@ -103,32 +103,53 @@ mask_power (suc k) n l h e = parity (λ x. mask_power k (n / 2) (half_lt k n l) 
 power_mask : (n k : ℕ) → n ≡ 2 ^ k → bit_and n (n - 1) ≡ 0
 power_mask n k e = rw e (and_mask (2 ^ k) k ∙ mod_self (2 ^ k))
 
--- for the proof of `is_power_of_two`
-test' : (n : ℕ) → n < 65536 → 0 < n → (b c : Bool) → (bit_and n (n - 1) == 0) ≡ b → is_power n ≡ c → b ≡ c
-test' n l h true true e f = refl
-test' n l h false false e f = refl
-test' n l h true false e f =
-    absurd (true≢false (sym (power_is_power n l (mask_power 16 n l h (eqb-true (bit_and n (n - 1)) 0 e))) ∙ f))
-test' n l h false true e f =
-    let w = is_power_power n f in
-    absurd (true≢false (sym (eq-eqb (bit_and n (n - 1)) 0 (power_mask n w.0 w.1)) ∙ e))
+-- a test that says of n what Power does is is_power
+decided' : (n : ℕ) → n < 65536 → (a b : Bool) → is_power n ≡ b → (a ≡ true → Power n) → (Power n → a ≡ true) → a ≡ b
+decided' n l true true e f g = refl
+decided' n l false false e f g = refl
+decided' n l true false e f g = absurd (true≢false (sym (power_is_power n l (f refl)) ∙ e))
+decided' n l false true e f g = absurd (true≢false (sym (g (is_power_power n e))))
 
 pub power_test : (n : ℕ) → n < 65536 → 0 < n → (bit_and n (n - 1) == 0) ≡ is_power n
-power_test n l h = test' n l h _ _ refl refl
+power_test n l h = decided' n l _ _ refl (λ e. mask_power 16 n l h (eqb-true (bit_and n (n - 1)) 0 e)) (λ w. eq-eqb (bit_and n (n - 1)) 0 (power_mask n w.0 w.1))
+
+-- ---- a power of two has one bit that is set: std's test by `count_ones` decides it
+no_ones : count_ones 0 ≡ 0
+no_ones = let l = ones_le_self 0 in omega arith
+
+power_ones : (k n : ℕ) → n < 2 ^ k → count_ones n ≡ 1 → Power n
+power_ones zero n l e = let z : n ≡ 0 = omega arith in absurd (let f : count_ones 0 ≡ 1 = rw z at e in omega (arith, no_ones))
+power_ones (suc k) n l e = parity (power_ones k (n / 2) (half_lt k n l)) (dec_le (n % 2) 0)
+  where
+    parity : (count_ones (n / 2) ≡ 1 → Power (n / 2)) → Dec (n % 2 ≤ 0) → Power n
+    parity ih (yes w) = let s = ones_step n in half_power n (omega arith) (ih (omega arith))
+    parity ih (no w) = let s = ones_step n in let z : n / 2 ≡ 0 = zero_from_ones (n / 2) (omega arith) in (0, omega arith)
+
+ones_power : (k : ℕ) → count_ones (2 ^ k) ≡ 1
+ones_power zero = omega (arith, ones_step 1, no_ones)
+ones_power (suc k) =
+    let d : 2 ^ suc k ≡ 2 * 2 ^ k = pow-succ' 2 k in
+    let h : 2 ^ suc k / 2 ≡ 2 ^ k = omega arith in
+    let s : count_ones (2 ^ suc k) ≡ 2 ^ suc k % 2 + count_ones (2 ^ k) = rw h at (ones_step (2 ^ suc k)) in
+    omega (arith, ones_power k)
+
+pub one_bit : (n : ℕ) → n < 65536 → (count_ones n == 1) ≡ is_power n
+one_bit n l = decided' n l _ _ refl (λ e. power_ones 16 n l (eqb-true (count_ones n) 1 e)) (λ w. eq-eqb (count_ones n) 1 (rw w.1 (ones_power w.0)))
 
 pub power_zero : (n : ℕ) → n ≡ 0 → is_power n ≡ false
 unfolding is_power power_to
 power_zero n e = rw e
 
 -- ---- good_size
-module _ (n max : ℕ) (b : Bool) (e : b ≡ is_power n) where
-  pub good_power : b ≡ true → nat_le n max ≡ good_size n max
+-- for the proof of `good_size`
+module _ (n max : ℕ) (l : n < 65536) where
+  pub good_power : (count_ones n == 1) ≡ true → nat_le n max ≡ good_size n max
   unfolding good_size
-  good_power f = rw (← e, f)
+  good_power e = rw (sym (one_bit n l) ∙ e)
 
-  pub good_other : b ≡ false → false ≡ good_size n max
+  pub good_other : (count_ones n == 1) ≡ false → false ≡ good_size n max
   unfolding good_size
-  good_other f = rw (← e, f)
+  good_other e = rw (sym (one_bit n l) ∙ e)
 
 -- a good size is a power of two up to the largest
 good' : (n max : ℕ) (b : Bool) → is_power n ≡ b → pick b (nat_le n max) false ≡ true → Power n × (n ≤ max)
@@ -144,21 +165,19 @@ pub is_good : (n max : ℕ) → n < 65536 → Power n → n ≤ max → good_siz
 unfolding good_size
 is_good n max l w h = rw (power_is_power n l w) (le-leb n max h)
 
--- ---- places in a ring, for the proof of `ring_place`
-place_zero : (index mask : ℕ) → index < 65536 → mask ≡ 65535 → bit_and index mask ≡ index % 0
-place_zero index mask h e = rw (e, mod-zero) (and_mask index 16 ∙ mod-eq_of_lt h)
-
+-- ---- places in a ring, for the proof of `place`
 place_power : (index size k : ℕ) → size ≡ 2 ^ k → bit_and index (size - 1) ≡ index % size
 place_power index size k e = rw e (and_mask index k)
 
-pub place_mask : (index size mask : ℕ) → index < 65536 → size < 65536 → mask ≡ sub16 size 1 → bit_and size mask ≡ 0 → bit_and index mask ≡ index % size
-unfolding sub16
-place_mask index zero mask h l e f = place_zero index mask h e
-place_mask index (suc s) mask h l e f =
-    let g : mask ≡ suc s - 1 = omega arith in
+-- the mask is the size less one, modulo 65,536
+pub place_mask : (index size : ℕ) → index < 65536 → size < 65536 → bit_and size ((size + 65535) % 65536) ≡ 0 → bit_and index ((size + 65535) % 65536) ≡ index % size
+place_mask index zero h l f = rw mod-zero (and_mask index 16 ∙ mod-eq_of_lt h)
+place_mask index (suc s) h l f =
+    let g : (suc s + 65535) % 65536 ≡ suc s - 1 = omega arith in
     let w = mask_power 16 (suc s) l (omega arith) (rw g at f) in
     rw g (place_power index (suc s) w.0 w.1)
 
+-- a size with a bit in common with a mask has places
 pub place_some : (size mask : ℕ) → (bit_and size mask ≢ 0) → 0 < size
 place_some zero mask f = absurd (f (and_zero_l mask))
 place_some (suc s) mask f = omega arith

@@ -1,7 +1,7 @@
 -- SPDX-License-Identifier: Apache-2.0 AND BSD-3-Clause
 -- The used ring (VIRTIO 1.2, 2.7.8): what a put answers, and what it leaves in memory.
-use Rattle.std.specs.Prelude.{◌≡◌, ℕ, ◌+◌, ◌*◌, ◌%◌, ◌<◌, ◌≤◌, Bool, true, false, List, length, ◌≢◌, nat_lt, slice_index}
-use Rattle.std.proofs.Common.{arith, sym, ap, ◌∙◌, true≢false, inl, lt-ltb, le-ltb, ltb-true, ltb-false}
+use Rattle.std.specs.Prelude.{◌≡◌, ℕ, ◌+◌, ◌*◌, ◌%◌, ◌<◌, ◌≤◌, Bool, true, false, List, length, ◌≢◌, nat_lt, slice_index, Result, Ok, Err}
+use Rattle.std.proofs.Common.{arith, sym, ◌∙◌, true≢false, inl, lt-ltb, le-ltb, ltb-true, ltb-false}
 use Rattle.std.proofs.Math.Path.{refl}
 use Rattle.wire.specs.Number.{bytes}
 use Rattle.wire.specs.Part.{Apart}
@@ -14,8 +14,6 @@ use Rattle.queue.specs.Wrap.{next16}
 use Rattle.queue.specs.declared.Queue.{Queue}
 use Rattle.queue.specs.declared.Error.{Error}
 use Rattle.queue.specs.declared.Error.TheVariants.{InvalidDescriptorIndex, GuestMemory}
-use Rattle.queue.specs.declared.Placed.{Placed}
-use Rattle.queue.specs.declared.Placed.TheVariants.{Added, NotAdded}
 
 -- where the next entry and idx stand
 abbrev pub entry_addr : Queue → ℕ
@@ -40,15 +38,15 @@ unfoldable pub room : Table → Queue → ℕ → Bool
 room t q size = pick (writable t size (entry_addr q) 8) (writable t size (idx_addr q) 2) false
 
 -- a head of size or more is refused; where the entry or idx can't be written nothing is changed
-unfoldable pub put_of : Table → Queue → List ℕ → ℕ → ℕ → Placed
+unfoldable pub put_of : Table → Queue → List ℕ → ℕ → ℕ → Result Queue Error
 put_of t q m head n =
-    pick (nat_lt head q.size) (pick (room t q (length m)) (Added (grown q)) (NotAdded GuestMemory)) (NotAdded InvalidDescriptorIndex)
+    pick (nat_lt head q.size) (pick (room t q (length m)) (Ok (grown q)) (Err GuestMemory)) (Err InvalidDescriptorIndex)
 
 unfoldable pub put_mem : Table → Queue → List ℕ → ℕ → ℕ → List ℕ
 put_mem t q m head n = pick (nat_lt head q.size) (pick (room t q (length m)) (with_idx t q (with_entry t q m head n)) m) m
 
 -- what a put answers, and what it leaves
-pub record Put (t : Table) (q : Queue) (m : List ℕ) (head n : ℕ) (r : Placed) (m' : List ℕ) : Type 0 where
+pub record Put (t : Table) (q : Queue) (m : List ℕ) (head n : ℕ) (r : Result Queue Error) (m' : List ℕ) : Type 0 where
   pub answer : r ≡ put_of t q m head n
   pub mem : m' ≡ put_mem t q m head n
 
@@ -76,12 +74,12 @@ module _ (t : Table) (q : Queue) (size : ℕ) where
 
 -- ---- the cases of a put, in the order of its refusals: the answer, with what is left in memory
 module _ (t : Table) (q : Queue) (m : List ℕ) (head n : ℕ) where
-  module _ (P : Placed → List ℕ → Type 0)
-      (beyond : q.size ≤ head → P (NotAdded InvalidDescriptorIndex) m)
-      (fault : head < q.size → room t q (length m) ≡ false → P (NotAdded GuestMemory) m)
-      (done : head < q.size → writable t (length m) (entry_addr q) 8 ≡ true → writable t (length m) (idx_addr q) 2 ≡ true → P (Added (grown q)) (with_idx t q (with_entry t q m head n))) where
+  module _ (P : Result Queue Error → List ℕ → Type 0)
+      (beyond : q.size ≤ head → P (Err InvalidDescriptorIndex) m)
+      (fault : head < q.size → room t q (length m) ≡ false → P (Err GuestMemory) m)
+      (done : head < q.size → writable t (length m) (entry_addr q) 8 ≡ true → writable t (length m) (idx_addr q) 2 ≡ true → P (Ok (grown q)) (with_idx t q (with_entry t q m head n))) where
     elim' : (a b : Bool) → nat_lt head q.size ≡ a → room t q (length m) ≡ b
-        → P (pick a (pick b (Added (grown q)) (NotAdded GuestMemory)) (NotAdded InvalidDescriptorIndex)) (pick a (pick b (with_idx t q (with_entry t q m head n)) m) m)
+        → P (pick a (pick b (Ok (grown q)) (Err GuestMemory)) (Err InvalidDescriptorIndex)) (pick a (pick b (with_idx t q (with_entry t q m head n)) m) m)
     elim' true true e f = let w = room_both t q (length m) f in done (ltb-true _ _ e) w.0 w.1
     elim' true false e f = fault (ltb-true _ _ e) f
     elim' false b e f = beyond (ltb-false _ _ e)
@@ -91,15 +89,15 @@ module _ (t : Table) (q : Queue) (m : List ℕ) (head n : ℕ) where
     put_elim = elim' (nat_lt head q.size) (room t q (length m)) refl refl
 
   -- the same, as equations
-  pub put_beyond : q.size ≤ head → Put t q m head n (NotAdded InvalidDescriptorIndex) m
+  pub put_beyond : q.size ≤ head → Put t q m head n (Err InvalidDescriptorIndex) m
   unfolding put_of put_mem
   put_beyond h = record { answer = rw (le-ltb _ _ h); mem = rw (le-ltb _ _ h) }
 
-  pub put_fault : head < q.size → room t q (length m) ≡ false → Put t q m head n (NotAdded GuestMemory) m
+  pub put_fault : head < q.size → room t q (length m) ≡ false → Put t q m head n (Err GuestMemory) m
   unfolding put_of put_mem
   put_fault h e = record { answer = rw (lt-ltb _ _ h, e); mem = rw (lt-ltb _ _ h, e) }
 
-  pub put_done : head < q.size → room t q (length m) ≡ true → Put t q m head n (Added (grown q)) (with_idx t q (with_entry t q m head n))
+  pub put_done : head < q.size → room t q (length m) ≡ true → Put t q m head n (Ok (grown q)) (with_idx t q (with_entry t q m head n))
   unfolding put_of put_mem
   put_done h e = record { answer = rw (lt-ltb _ _ h, e); mem = rw (lt-ltb _ _ h, e) }
 
@@ -108,21 +106,16 @@ grown_is q used added e f = rw (e, f)
 
 -- ---- for the proof of `add_used`
 module _ (t : Table) (q : Queue) (m : List ℕ) (head n : ℕ) (inside : head < q.size) (off : ℕ) (o : off ≡ 4 + 8 * (q.next_used % q.size))
-    (p : Queue) (e : p ≡ grown q) (r : Bool) (m₁ : List ℕ) (w : WroteBoth t m (q.used_ring + off) (used_bytes head n) (idx_addr q) (bytes 2 p.next_used) r m₁) where
+    (r : Bool) (m₁ : List ℕ) (w : WroteBoth t m (q.used_ring + off) (used_bytes head n) (idx_addr q) (bytes 2 (next16 q.next_used)) r m₁) where
   room_is : r ≡ room t q (length m)
   unfolding room
   room_is = rw o at w.ok
 
-  next_is : p.next_used ≡ next16 q.next_used
-  next_is = ap (λ (x : Queue). x.next_used) e
-
-  pub placed_refused : r ≡ false → Put t q m head n (NotAdded GuestMemory) m₁
+  pub placed_refused : r ≡ false → Put t q m head n (Err GuestMemory) m₁
   placed_refused f = let h : m₁ ≡ m = rw f at w.mem in rw h (put_fault t q m head n inside (sym room_is ∙ f))
 
-  pub placed_done : r ≡ true → Put t q m head n (Added p) m₁
-  placed_done f =
-      let h : m₁ ≡ with_idx t q (with_entry t q m head n) = rw (f, o, next_is) at w.mem in
-      rw (h, e) (put_done t q m head n inside (sym room_is ∙ f))
+  pub placed_done : r ≡ true → Put t q m head n (Ok (grown q)) m₁
+  placed_done f = let h : m₁ ≡ with_idx t q (with_entry t q m head n) = rw (f, o) at w.mem in rw h (put_done t q m head n inside (sym room_is ∙ f))
 
 -- ---- what a put leaves
 pub writable_all : (t : Table) (size a n : ℕ) → writable t size a n ≡ true → (k : ℕ) → k < n → InMemory t size (a + k)
@@ -135,22 +128,22 @@ module _ (t : Table) (q : Queue) (m : List ℕ) (head n : ℕ) where
       (λ h e f. after-length t (with_entry t q m head n) (idx_addr q) (bytes 2 (next16 q.next_used)) ∙ after-length t m (entry_addr q) (used_bytes head n))
 
   -- a refused put changes nothing
-  pub put_refused : (e : Error) → put_of t q m head n ≡ NotAdded e → put_mem t q m head n ≡ m
+  pub put_refused : (e : Error) → put_of t q m head n ≡ Err e → put_mem t q m head n ≡ m
   put_refused e x =
-      put_elim t q m head n (λ r k. r ≡ NotAdded e → k ≡ m) (λ h y. refl) (λ h f y. refl)
+      put_elim t q m head n (λ r k. r ≡ Err e → k ≡ m) (λ h y. refl) (λ h f y. refl)
       (λ h f g y. absurd (let z : ◌≡◌ {A = ℕ} 0 1 = cc in omega arith)) x
 
   -- also where idx is the part that can't be written: the numbers have not grown then, and the entry is not there
-  pub put_idx_refused : writable t (length m) (idx_addr q) 2 ≡ false → ((p : Queue) → put_of t q m head n ≢ Added p) × (put_mem t q m head n ≡ m)
+  pub put_idx_refused : writable t (length m) (idx_addr q) 2 ≡ false → ((p : Queue) → put_of t q m head n ≢ Ok p) × (put_mem t q m head n ≡ m)
   put_idx_refused e =
-      put_elim t q m head n (λ r k. ((p : Queue) → r ≢ Added p) × (k ≡ m))
+      put_elim t q m head n (λ r k. ((p : Queue) → r ≢ Ok p) × (k ≡ m))
       (λ h. (λ p x. let z : ◌≡◌ {A = ℕ} 0 1 = cc in omega arith, refl)) (λ h f. (λ p x. let z : ◌≡◌ {A = ℕ} 0 1 = cc in omega arith, refl))
       (λ h f g. absurd (true≢false (sym g ∙ e)))
 
   -- only next used and added grow
-  pub put-queue : (p : Queue) → put_of t q m head n ≡ Added p → p ≡ grown q
+  pub put-queue : (p : Queue) → put_of t q m head n ≡ Ok p → p ≡ grown q
   put-queue p x =
-      put_elim t q m head n (λ r k. r ≡ Added p → p ≡ grown q) (λ h y. absurd (let z : ◌≡◌ {A = ℕ} 0 1 = cc in omega arith))
+      put_elim t q m head n (λ r k. r ≡ Ok p → p ≡ grown q) (λ h y. absurd (let z : ◌≡◌ {A = ℕ} 0 1 = cc in omega arith))
       (λ h f y. absurd (let z : ◌≡◌ {A = ℕ} 0 1 = cc in omega arith)) (λ h f g y. cc) x
 
   -- a byte outside the entry and idx is as it was, and so is one that the table does not map
@@ -167,10 +160,10 @@ module _ (t : Table) (q : Queue) (m : List ℕ) (head n : ℕ) where
       ∙ after_unmapped t m (entry_addr q) (used_bytes head n) i u)
 
   -- a put that is done has written inside: the entry and idx are whole in memory
-  pub put_inside : (p : Queue) → put_of t q m head n ≡ Added p
+  pub put_inside : (p : Queue) → put_of t q m head n ≡ Ok p
       → ((k : ℕ) → k < 8 → InMemory t (length m) (entry_addr q + k)) × ((k : ℕ) → k < 2 → InMemory t (length m) (idx_addr q + k))
   put_inside p x =
-      put_elim t q m head n (λ r k. r ≡ Added p → ((k : ℕ) → k < 8 → InMemory t (length m) (entry_addr q + k)) × ((k : ℕ) → k < 2 → InMemory t (length m) (idx_addr q + k)))
+      put_elim t q m head n (λ r k. r ≡ Ok p → ((k : ℕ) → k < 8 → InMemory t (length m) (entry_addr q + k)) × ((k : ℕ) → k < 2 → InMemory t (length m) (idx_addr q + k)))
       (λ h y. absurd (let z : ◌≡◌ {A = ℕ} 0 1 = cc in omega arith)) (λ h f y. absurd (let z : ◌≡◌ {A = ℕ} 0 1 = cc in omega arith))
       (λ h f g y. (writable_all t (length m) (entry_addr q) 8 f, writable_all t (length m) (idx_addr q) 2 g)) x
 

@@ -1,5 +1,5 @@
 // SPDX-License-Identifier: Apache-2.0 AND BSD-3-Clause
-// The split queue, device side: ten numbers and flags by value, a pass over the available ring, and what the calls answer.
+// The split queue, device side: ten numbers and flags by value, a pass over the available ring, and why a call is refused.
 //
 // A call that can be refused answers what changed, or the reason. A refusal hands back no queue: the caller's own is still the one.
 #![tactic(auto)]
@@ -38,15 +38,8 @@ pub struct AvailIter {
     pub last_index: u16,
 }
 
-// Half of an address: 32 bits, or none, which keeps those that are there.
-#[derive(Clone, Copy)]
-pub enum Half {
-    Given(u32),
-    Kept,
-}
-
 // Why a call was refused.
-#[derive(Clone, Copy)]
+#[derive(Clone, Copy, Debug, PartialEq, Eq)]
 pub enum Error {
     InvalidMaxSize,
     InvalidSize,
@@ -58,53 +51,4 @@ pub enum Error {
     InvalidDescriptorIndex,
     // A field is not in guest memory, or its address passes 2^64.
     GuestMemory,
-}
-
-// What configuration answers.
-#[derive(Clone, Copy)]
-pub enum Configured {
-    Changed(Queue),
-    NotChanged(Error),
-}
-
-// What a begin answers.
-#[derive(Clone, Copy)]
-pub enum Begun {
-    Pass(AvailIter),
-    NotBegun(Error),
-}
-
-// What a step of a pass answers: a head, and the queue after it.
-#[derive(Clone, Copy)]
-pub enum Taken {
-    Head(u16, Queue),
-    NoHead,
-}
-
-// What a put answers.
-#[derive(Clone, Copy)]
-pub enum Placed {
-    Added(Queue),
-    NotAdded(Error),
-}
-
-// What stopping notifications from the driver answers.
-#[derive(Clone, Copy)]
-pub enum Stopped {
-    Disabled,
-    NotDisabled(Error),
-}
-
-// What asking for notifications answers: whether something came in meanwhile.
-#[derive(Clone, Copy)]
-pub enum Asked {
-    Enabled(bool),
-    NotEnabled(Error),
-}
-
-// What the question answers: whether the driver must be notified.
-#[derive(Clone, Copy)]
-pub enum Answered {
-    Needed(bool, Queue),
-    NotAnswered(Error),
 }

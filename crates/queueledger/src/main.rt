@@ -4,316 +4,151 @@
 // CLOSED.
 #![tactic(auto)]
 
-ghost use Rattle.std.specs.Prelude.{◌≤◌, length};
-
-use lines::state::{Done, Outcome, State};
-use std::io::{ErrorKind, Read};
+use arrayvec::ArrayVec;
+use lines::state::State;
+use std::fmt;
+use std::io::{ErrorKind, Read, Write};
 use std::process::ExitCode;
 
-// What is known between two lines.
-#[derive(Clone, Copy)]
-struct Progress {
+// What is known between two lines, and the room that the script has.
+#[derive(Drop)]
+struct Session {
     state: State,
-    // How many lines have ended, and how many bytes of the next one are there.
+    // How many lines have ended.
     lines: u64,
-    begun: usize,
-    // How many bytes of answers wait to be written.
-    waiting: usize,
     // A line was answered with an error.
     wrong: bool,
-    // No more is read: the input has ended, a read failed, or a write did.
-    ended: bool,
-    unread: bool,
-    unwritten: bool,
-    // The write failed since nobody reads the answers any more.
-    closed: bool,
+    // Whether all answers could be written so far.
+    written: Result<(), Stop>,
+    // The line that has begun. There is room for one byte more than a line may have, and what it has beyond is left out: by then it is
+    // too long.
+    line: ArrayVec<u8, 4096>,
+    // The answers that wait to be written.
+    answers: ArrayVec<u8, 65536>,
+    table: [u64; 24],
+    // The largest image that there is.
+    space: [u8; 1048576],
 }
 
-// Answers are written when there may be no room for one more.
-const FULL: usize = 65536 - wording::LONGEST_ANSWER;
+// Why a script was not run to its end.
+#[derive(Clone, Copy)]
+enum Stop {
+    Unread,
+    Unwritten(ErrorKind),
+}
+
+impl fmt::Display for Stop {
+    fn fmt<W: fmt::Write>(&self, f: &mut fmt::Formatter<W>) -> fmt::Result {
+        match self {
+            Stop::Unread => f.write_str("the script could not be read"),
+            Stop::Unwritten(_) => f.write_str("an answer could not be written"),
+        }
+    }
+}
 
 // The status, with no message, where the reader of the answers has closed its pipe: the one that a shell shows for a program that the
 // signal SIGPIPE ended. The runtime holds that signal back, and the write fails instead.
 const CLOSED: u8 = 141;
 
 fn main(rt: HostRuntime) -> ExitCode {
-    lend(&rt, [0; 1048576])
-}
-
-// The largest image that there is; a line buffer one byte longer than a line may be; and room for answers.
-fn lend(rt: &(impl Input + Print + Eprint), mut space: [u8; 1048576]) -> ExitCode {
-    let mut table = [0u64; 24];
-    let mut line = [0u8; 4096];
-    let mut out = [0u8; 65536];
-    run(rt, &mut space, &mut table, &mut line, &mut out)
-}
-
-fn run(
-    rt: &(impl Input + Print + Eprint),
-    space: &mut [u8],
-    table: &mut [u64],
-    line: &mut [u8],
-    out: &mut [u8],
-) -> ExitCode {
-    let mut input = rt.reader();
-    let s = read_all(rt, &mut input, start(), space, table, line, out);
-    end_script(rt, s, space, table, line, out)
-}
-
-// The last line may lack its line feed. Where a read failed it is no line: nobody knows how it goes on.
-fn end_script(
-    rt: &(impl Print + Eprint),
-    s: Progress,
-    space: &mut [u8],
-    table: &mut [u64],
-    line: &[u8],
-    out: &mut [u8],
-) -> ExitCode {
-    if s.unread {
-        return report(rt, s);
-    }
-    if s.begun == 0 {
-        return report(rt, s);
-    }
-    let last = end_line(rt, s, space, table, line, out);
-    report(rt, write_waiting(rt, last, out))
+    let mut session = Session::new();
+    let ended = session.run(&rt);
+    report(&rt, ended, session.wrong)
 }
 
 // Where standard error takes nothing nobody is left to tell.
-fn report(rt: &impl Eprint, s: Progress) -> ExitCode {
-    if s.closed {
+fn report(rt: &impl Eprint, ended: Result<(), Stop>, wrong: bool) -> ExitCode {
+    if let Err(Stop::Unwritten(ErrorKind::BrokenPipe)) = ended {
         return ExitCode::from(CLOSED);
     }
-    if s.unread {
-        let _ = rt.eprintln("queueledger: the script could not be read");
+    if let Err(stop) = ended {
+        let _ = eprintln!(rt; "queueledger: {stop}");
     }
-    if s.unwritten {
-        let _ = rt.eprintln("queueledger: an answer could not be written");
-    }
-    if s.wrong {
-        let _ = rt.eprintln("queueledger: a line was answered with an error");
+    if wrong {
+        let _ = eprintln!(rt; "queueledger: a line was answered with an error");
     }
     ExitCode::SUCCESS
 }
 
-fn start() -> Progress {
-    Progress {
-        state: State::new(),
-        lines: 0,
-        begun: 0,
-        waiting: 0,
-        wrong: false,
-        ended: false,
-        unread: false,
-        unwritten: false,
-        closed: false,
-    }
-}
-
-// A proved loop has to end, and nothing says that the input does: so it counts down from a number that no run uses up.
-fn read_all(
-    rt: &impl Print,
-    input: &mut impl Read,
-    from: Progress,
-    space: &mut [u8],
-    table: &mut [u64],
-    line: &mut [u8],
-    out: &mut [u8],
-) -> Progress {
-    let mut s = from;
-    let mut turns = u64::MAX;
-    while 0 < turns {
-        if s.ended {
-            return s;
-        }
-        s = read_some(rt, input, s, space, table, line, out);
-        turns -= 1;
-    }
-    s
-}
-
-// One read, and the lines that end in it. Their answers are written before the next read, which may have to wait.
-fn read_some(
-    rt: &impl Print,
-    input: &mut impl Read,
-    s: Progress,
-    space: &mut [u8],
-    table: &mut [u64],
-    line: &mut [u8],
-    out: &mut [u8],
-) -> Progress {
-    let mut buffer = [0u8; 65536];
-    match input.read(&mut buffer) {
-        Ok(0) => end_of(s, false),
-        Ok(n) => {
-            let fed = feed(rt, &buffer[..n], s, space, table, line, out);
-            write_waiting(rt, fed, out)
-        }
-        Err(_) => end_of(s, true),
-    }
-}
-
-fn end_of(mut s: Progress, unread: bool) -> Progress {
-    s.ended = true;
-    s.unread = unread;
-    s
-}
-
-fn feed(
-    rt: &impl Print,
-    part: &[u8],
-    from: Progress,
-    space: &mut [u8],
-    table: &mut [u64],
-    line: &mut [u8],
-    out: &mut [u8],
-) -> Progress {
-    let mut s = from;
-    let mut i = 0;
-    while i < part.len() {
-        let end = find(part, i, b'\n');
-        s = longer(s, line, &part[i..end]);
-        if part.len() <= end {
-            return s;
-        }
-        i = end + 1;
-        s = end_line(rt, s, space, table, line, out);
-    }
-    s
-}
-
-// Where the first b from a place on is, or where the bytes end.
-fn find(part: &[u8], from: usize, b: u8) -> usize
-    requires { from ≤ length part.now }
-    ensures from { from ≤ result }
-    ensures within { result ≤ length part.now }
-{
-    match part[from..].iter().position(|x| *x == b) {
-        Some(k) => from + k,
-        None => part.len(),
-    }
-}
-
-fn longer(mut s: Progress, line: &mut [u8], part: &[u8]) -> Progress {
-    s.begun = append(line, s.begun, part);
-    s
-}
-
-fn append(line: &mut [u8], begun: usize, part: &[u8]) -> usize {
-    let mut at = begun;
-    let mut i = 0;
-    while i < part.len() {
-        at = store(line, at, part[i]);
-        i += 1;
-    }
-    at
-}
-
-// What a line has beyond the buffer is left out: by then it is too long.
-fn store(line: &mut [u8], at: usize, b: u8) -> usize {
-    if at < line.len() {
-        line[at] = b;
-        at + 1
-    } else {
-        at
-    }
-}
-
-fn end_line(
-    rt: &impl Print,
-    s: Progress,
-    space: &mut [u8],
-    table: &mut [u64],
-    line: &[u8],
-    out: &mut [u8],
-) -> Progress {
-    let begun = s.begun;
-    if line.len() < begun {
-        return s;
-    }
-    answer_line(rt, s, space, table, &line[0..begun], out)
-}
-
-fn answer_line(
-    rt: &impl Print,
-    s: Progress,
-    space: &mut [u8],
-    table: &mut [u64],
-    line: &[u8],
-    out: &mut [u8],
-) -> Progress {
-    let state = s.state;
-    let number = std::num::wrapping_add_u64(s.lines, 1);
-    let outcome = replay::line::run_line(line, state, space, table);
-    match outcome {
-        Outcome::Silent => next_line(rt, s, state, number, s.waiting, s.wrong, out),
-        Outcome::Wrong(fault) => {
-            let waiting = wording::write_fault(out, s.waiting, number, fault);
-            next_line(rt, s, state, number, waiting, true, out)
-        }
-        Outcome::Ran(done) => answer(rt, done, s, number, space, line, out),
-    }
-}
-
-fn answer(
-    rt: &impl Print,
-    done: Done,
-    s: Progress,
-    number: u64,
-    space: &[u8],
-    line: &[u8],
-    out: &mut [u8],
-) -> Progress {
-    let state = done.state;
-    let said = done.answer;
-    let longer = wording::write_answer(out, s.waiting, line, said, space);
-    next_line(rt, s, state, number, longer, s.wrong, out)
-}
-
-fn next_line(
-    rt: &impl Print,
-    before: Progress,
-    state: State,
-    lines: u64,
-    waiting: usize,
-    wrong: bool,
-    out: &[u8],
-) -> Progress {
-    let s = Progress {
-        state,
-        lines,
-        begun: 0,
-        waiting,
-        wrong,
-        ended: before.ended,
-        unread: before.unread,
-        unwritten: before.unwritten,
-        closed: before.closed,
-    };
-    if waiting < FULL {
-        return s;
-    }
-    write_waiting(rt, s, out)
-}
-
-// After a write that failed none is tried: else an answer could be missing among those that are there.
-fn write_waiting(rt: &impl Print, mut s: Progress, out: &[u8]) -> Progress {
-    let waiting = s.waiting;
-    s.waiting = 0;
-    if s.unwritten {
-        return s;
-    }
-    if waiting <= out.len() {
-        if let Err(e) = rt.write_all(&out[0..waiting]) {
-            return unwritten(s, e.kind() == ErrorKind::BrokenPipe);
+impl Session {
+    fn new() -> Session {
+        Session {
+            state: State::new(),
+            lines: 0,
+            wrong: false,
+            written: Ok(()),
+            line: ArrayVec::new(),
+            answers: ArrayVec::new(),
+            table: [0; 24],
+            space: [0; 1048576],
         }
     }
-    s
-}
 
-fn unwritten(mut s: Progress, closed: bool) -> Progress {
-    s.ended = true;
-    s.unwritten = true;
-    s.closed = closed;
-    s
+    // The last line may lack its line feed. Where a read failed it is no line: nobody knows how it goes on.
+    fn run(&mut self, rt: &(impl Input + Print)) -> Result<(), Stop> {
+        self.read_all(rt, &mut rt.reader())?;
+        if !self.line.is_empty() {
+            self.end_line(rt);
+            self.write_answers(rt);
+        }
+        self.written
+    }
+
+    // Answers are written before the next read, which may have to wait. A proved loop has to end, and nothing says that the input does:
+    // so it counts up to a number that no run reaches.
+    fn read_all(&mut self, rt: &impl Print, input: &mut impl Read) -> Result<(), Stop> {
+        let mut buffer = [0u8; 65536];
+        for _ in 0..u64::MAX {
+            let n = input.read(&mut buffer).map_err(|_| Stop::Unread)?;
+            if n == 0 {
+                break;
+            }
+            self.feed(rt, &buffer[..n]);
+            self.write_answers(rt);
+            if self.written.is_err() {
+                break;
+            }
+        }
+        Ok(())
+    }
+
+    fn feed(&mut self, rt: &impl Print, part: &[u8]) {
+        for piece in part.split_inclusive(|b| *b == b'\n') {
+            let end = piece.strip_suffix(b"\n");
+            let _ = self.line.write(end.unwrap_or(piece));
+            if end.is_some() {
+                self.end_line(rt);
+            }
+        }
+    }
+
+    fn end_line(&mut self, rt: &impl Print) {
+        self.lines = self.lines.wrapping_add(1);
+        let line = self.line.as_slice();
+        match replay::line::run_line(line, self.state, &mut self.space, &mut self.table) {
+            Ok(None) => {}
+            Ok(Some(done)) => {
+                self.state = done.state;
+                wording::write_answer(&mut self.answers, line, done.answer, &self.space);
+            }
+            Err(fault) => {
+                self.wrong = true;
+                wording::write_fault(&mut self.answers, self.lines, fault);
+            }
+        }
+        self.line.clear();
+        // Answers are written when there may be no room for one more: so none was cut.
+        if self.answers.remaining_capacity() <= wording::LONGEST_ANSWER {
+            self.write_answers(rt);
+        }
+    }
+
+    // After a write that failed none is tried: else an answer could be missing among those that are there.
+    fn write_answers(&mut self, rt: &impl Print) {
+        if self.written.is_ok() {
+            let sent = rt.write_all(self.answers.as_slice());
+            self.written = sent.map_err(|e| Stop::Unwritten(e.kind()));
+        }
+        self.answers.clear();
+    }
 }

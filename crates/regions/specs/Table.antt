@@ -1,18 +1,19 @@
 -- SPDX-License-Identifier: Apache-2.0 AND BSD-3-Clause
 -- The region table: a flat list of numbers, three a row, of which at most eight rows count. Where a guest address lies, and which
 -- addresses are in memory at all. Only this crate knows what a table is made of.
-use Rattle.std.specs.Prelude.{ℕ, zero, suc, ◌+◌, ◌-◌, ◌≤◌, ◌<◌, ◌^◌, min, Bool, ◌⊎◌, length, get_or, drop, ltb, leb}
-use Rattle.std.proofs.Common.{zero-le, add-one, sym, ap, ◌∙◌, true≢false, inl, inr, length-drop, drop-cons}
-use Rattle.std.proofs.Math.Numerals.{add-two, add-three}
+use Rattle.std.specs.Prelude.{ℕ, zero, suc, ◌+◌, ◌-◌, ◌≤◌, ◌<◌, ◌^◌, min, Bool, ◌⊎◌, length, get_or, drop, take, ltb, leb, Option, Some, None}
+use Rattle.std.proofs.Common.{zero-le, add-one, sym, ap, ◌∙◌, true≢false, inl, inr}
+use Rattle.std.proofs.Math.Seq.{take-length}
+use Rattle.std.proofs.lemmas.Option.{same_Some}
 use native.Mathlib.Omega.{arith}
 use Rattle.std.proofs.Math.Path.{◌≡◌, refl}
 use Rattle.std.proofs.Math.Bool.{true, false}
 use mathlib.Core.List.{List, [], ◌∷◌}
 use borrow.Author.Tests.{leb-true, ltb-true, le-leb, lt-leb, lt-ltb, le-ltb}
-use Rattle.regions.specs.declared.Place.{Place}
-use Rattle.regions.specs.declared.Place.TheVariants.{At, Nowhere}
-use Rattle.regions.specs.declared.Stretch as decl
-use Rattle.regions.specs.declared.Stretch.TheVariants.{Run, Nothing}
+use Rattle.std.specs.Option.{option_map, option_or}
+use Rattle.regions.specs.declared.Region.{Region}
+use Rattle.regions.specs.declared.Rows.{Rows}
+use Rattle.regions.specs.declared.Run.{Run}
 
 abbrev pub pick : {A : Type 0} → Bool → A → A → A
 pick true a b = a
@@ -22,13 +23,15 @@ abbrev pub Table : Type 0
 Table = List ℕ
 
 -- guest addresses from base on, len of them, lie in the slice from offset on
-pub record Row : Type 0 where
-  pub base : ℕ
-  pub len : ℕ
-  pub offset : ℕ
+abbrev pub Row : Type 0
+Row = Region
 
 abbrev pub row : ℕ → ℕ → ℕ → Row
 row b l o = record { base = b; len = l; offset = o }
+
+-- the row in the three words from i on
+abbrev pub row_at : Table → ℕ → Row
+row_at t i = row (get_or t i 0) (get_or t (i + 1) 0) (get_or t (i + 2) 0)
 
 -- the first k rows of a flat list: an incomplete last row counts for nothing
 unfoldable pub rows : ℕ → List ℕ → List Row
@@ -37,6 +40,10 @@ rows (suc k) [] = []
 rows (suc k) (b ∷ []) = []
 rows (suc k) (b ∷ l ∷ []) = []
 rows (suc k) (b ∷ l ∷ o ∷ ws) = row b l o ∷ rows k ws
+
+-- the rows that are still to come
+abbrev pub rows_left : Rows → List Row
+rows_left s = rows s.count s.words.now
 
 -- how many bytes a row has: as many as its length says, as a slice of size bytes has behind its offset, and as lie below 2 ^ 64
 unfoldable pub extent : Row → ℕ → ℕ
@@ -48,31 +55,34 @@ pub record Holds (r : Row) (size a i : ℕ) : Type 0 where
   pub inside : a < r.base + extent r size
   pub is : i ≡ r.offset + (a - r.base)
 
+-- n bytes, from place i on
+abbrev pub run_of : ℕ → ℕ → Run
+run_of i n = record { at = i; len = n }
+
 -- what the row has from guest address a on
-unfoldable pub stretch_r : Row → ℕ → ℕ → decl.Stretch
+unfoldable pub stretch_r : Row → ℕ → ℕ → Option Run
 stretch_r r size a =
     pick (leb r.base a)
-    (pick (ltb a (r.base + extent r size)) (Run (r.offset + (a - r.base)) (r.base + extent r size - a)) Nothing)
-    Nothing
+    (pick (ltb a (r.base + extent r size)) (Some (run_of (r.offset + (a - r.base)) (r.base + extent r size - a))) None)
+    None
 
-abbrev pub first_of : decl.Stretch → decl.Stretch → decl.Stretch
-first_of (Run i n) s = Run i n
-first_of Nothing s = s
+-- what f says of the first of which it says anything
+abbrev pub first_some : {A B : Type 0} → (A → Option B) → List A → Option B
+first_some f [] = None
+first_some f (x ∷ xs) = option_or (f x) (first_some f xs)
 
 -- what the first row that holds guest address a has from there on
-unfoldable pub stretch_in : List Row → ℕ → ℕ → decl.Stretch
-stretch_in [] size a = Nothing
-stretch_in (r ∷ rs) size a = first_of (stretch_r r size a) (stretch_in rs size a)
+unfoldable pub stretch_in : List Row → ℕ → ℕ → Option Run
+stretch_in rs size a = first_some (λ r. stretch_r r size a) rs
 
-unfoldable pub stretch_of : Table → ℕ → ℕ → decl.Stretch
+unfoldable pub stretch_of : Table → ℕ → ℕ → Option Run
 stretch_of t size a = stretch_in (rows 8 t) size a
 
 -- where guest address a lies
-abbrev pub place_of : decl.Stretch → Place
-place_of (Run i n) = At i
-place_of Nothing = Nowhere
+abbrev pub place_of : Option Run → Option ℕ
+place_of s = option_map (λ u. u.at) s
 
-unfoldable pub spot : Table → ℕ → ℕ → Place
+unfoldable pub spot : Table → ℕ → ℕ → Option ℕ
 spot t size a = place_of (stretch_of t size a)
 
 pub spot_is : (t : Table) (size a : ℕ) → spot t size a ≡ place_of (stretch_of t size a)
@@ -89,18 +99,12 @@ pub extent_is : (r : Row) (size : ℕ) → extent r size ≡ min (min r.len (siz
 unfolding extent
 extent_is r size = refl
 
-high' : (have base : ℕ) → base < 2 ^ 64 → 2 ^ 64 - 1 - base < have - 1 → min have (2 ^ 64 - base) ≡ 2 ^ 64 - 1 - base + 1
-high' have base b h = omega arith
-
-low' : (have base : ℕ) → base < 2 ^ 64 → have - 1 ≤ 2 ^ 64 - 1 - base → min have (2 ^ 64 - base) ≡ have
-low' have base b h = omega arith
-
 module _ (r : Row) (size have : ℕ) (e : have ≡ min r.len (size - r.offset)) (b : r.base < 2 ^ 64) where
   pub extent_high : 2 ^ 64 - 1 - r.base < have - 1 → extent r size ≡ 2 ^ 64 - 1 - r.base + 1
-  extent_high h = rw (extent_is, ← e) (high' have r.base b h)
+  extent_high h = rw (extent_is, ← e) (omega arith)
 
   pub extent_low : have - 1 ≤ 2 ^ 64 - 1 - r.base → extent r size ≡ have
-  extent_low h = rw (extent_is, ← e) (low' have r.base b h)
+  extent_low h = rw (extent_is, ← e) (omega arith)
 
 pub extent-fits : (r : Row) (size : ℕ) → Fits r size (extent r size)
 unfolding extent
@@ -118,39 +122,41 @@ holds_top r size a i h = let f = extent-fits r size in omega arith
 
 -- ---- stretch_r
 module _ (r : Row) (size a : ℕ) where
-  pub stretch_r_in : (i n : ℕ) → Holds r size a i → n ≡ r.base + extent r size - a → stretch_r r size a ≡ Run i n
+  pub stretch_r_in : (i n : ℕ) → Holds r size a i → n ≡ r.base + extent r size - a → stretch_r r size a ≡ Some (run_of i n)
   unfolding stretch_r
   stretch_r_in i n h e = simp (le-leb _ _ h.above, lt-ltb _ _ h.inside) (cc h.is)
 
-  pub stretch_r_below : a < r.base → stretch_r r size a ≡ Nothing
+  pub stretch_r_below : a < r.base → stretch_r r size a ≡ None
   unfolding stretch_r
   stretch_r_below h = simp (lt-leb _ _ h)
 
-  pub stretch_r_above : r.base + extent r size ≤ a → stretch_r r size a ≡ Nothing
+  pub stretch_r_above : r.base + extent r size ≤ a → stretch_r r size a ≡ None
   unfolding stretch_r
   stretch_r_above h = above' (leb r.base a)
     where
-      above' : (b : Bool) → pick b (pick (ltb a (r.base + extent r size)) (Run (r.offset + (a - r.base)) (r.base + extent r size - a)) Nothing) Nothing ≡ Nothing
+      above' : (b : Bool) → pick b (pick (ltb a (r.base + extent r size)) (Some (run_of (r.offset + (a - r.base)) (r.base + extent r size - a))) None) None ≡ None
       above' true = simp (le-ltb _ _ h)
       above' false = refl
 
   inv' : (b c : Bool) (i n : ℕ) → leb r.base a ≡ b → ltb a (r.base + extent r size) ≡ c
-      → pick b (pick c (Run (r.offset + (a - r.base)) (r.base + extent r size - a)) Nothing) Nothing ≡ Run i n
+      → pick b (pick c (Some (run_of (r.offset + (a - r.base)) (r.base + extent r size - a))) None) None ≡ Some (run_of i n)
       → Holds r size a i × (n ≡ r.base + extent r size - a)
-  inv' true true i n p q e = (record { above = leb-true _ _ p; inside = ltb-true _ _ q; is = cc }, cc)
-  inv' true false i n p q e = absurd (let z : ◌≡◌ {A = ℕ} 0 1 = cc in omega arith)
-  inv' false c i n p q e = absurd (let z : ◌≡◌ {A = ℕ} 0 1 = cc in omega arith)
+  inv' true true i n p q e =
+      let w = same_Some _ _ e in
+      (record { above = leb-true _ _ p; inside = ltb-true _ _ q; is = sym (ap (λ (u : Run). u.at) w) }, sym (ap (λ (u : Run). u.len) w))
+  inv' true false i n p q e = absurd cc
+  inv' false c i n p q e = absurd cc
 
-  pub stretch_r_inv : (i n : ℕ) → stretch_r r size a ≡ Run i n → Holds r size a i × (n ≡ r.base + extent r size - a)
+  pub stretch_r_inv : (i n : ℕ) → stretch_r r size a ≡ Some (run_of i n) → Holds r size a i × (n ≡ r.base + extent r size - a)
   unfolding stretch_r
   stretch_r_inv i n e = inv' _ _ i n refl refl e
 
   -- a row that does not hold the address has nothing there
-  out' : (s : decl.Stretch) → stretch_r r size a ≡ s → ((i : ℕ) → Holds r size a i → ⊥) → s ≡ Nothing
-  out' (Run i n) e f = absurd (f i (stretch_r_inv i n e).0)
-  out' Nothing e f = refl
+  out' : (s : Option Run) → stretch_r r size a ≡ s → ((i : ℕ) → Holds r size a i → ⊥) → s ≡ None
+  out' (Some u) e f = absurd (f u.at (stretch_r_inv u.at u.len e).0)
+  out' None e f = refl
 
-  pub stretch_r_out : ((i : ℕ) → Holds r size a i → ⊥) → stretch_r r size a ≡ Nothing
+  pub stretch_r_out : ((i : ℕ) → Holds r size a i → ⊥) → stretch_r r size a ≡ None
   stretch_r_out f = out' (stretch_r r size a) refl f
 
 -- ---- what the table maps: some row puts guest address a at place i
@@ -180,54 +186,58 @@ module _ (t : Table) (size a i : ℕ) (h : Maps t size a i) where
   maps_top = (room_in (rows 8 t) size a i h).1
 
 -- where an address lies is one of the places to which the table maps it
-maps_in' : (r : Row) (rs : List Row) (size a i n : ℕ) (s q : decl.Stretch) → stretch_r r size a ≡ s → (q ≡ Run i n → MapsIn rs size a i)
-    → first_of s q ≡ Run i n → Holds r size a i ⊎ MapsIn rs size a i
-maps_in' r rs size a i n (Run j k) q e f h = inl (stretch_r_inv r size a i n (e ∙ h)).0
-maps_in' r rs size a i n Nothing q e f h = inr (f h)
+maps_in' : (r : Row) (rs : List Row) (size a i n : ℕ) (s q : Option Run) → stretch_r r size a ≡ s → (q ≡ Some (run_of i n) → MapsIn rs size a i)
+    → option_or s q ≡ Some (run_of i n) → Holds r size a i ⊎ MapsIn rs size a i
+maps_in' r rs size a i n (Some u) q e f h = inl (stretch_r_inv r size a i n (e ∙ h)).0
+maps_in' r rs size a i n None q e f h = inr (f h)
 
-maps_in : (rs : List Row) (size a i n : ℕ) → stretch_in rs size a ≡ Run i n → MapsIn rs size a i
+pub stretch_nil : (rs : List Row) (size a : ℕ) → rs ≡ [] → stretch_in rs size a ≡ None
 unfolding stretch_in
-maps_in [] size a i n e = let z : ◌≡◌ {A = ℕ} 0 1 = cc in omega arith
+stretch_nil rs size a e = rw e
+
+maps_in : (rs : List Row) (size a i n : ℕ) → stretch_in rs size a ≡ Some (run_of i n) → MapsIn rs size a i
+unfolding stretch_in
+maps_in [] size a i n e = absurd cc
 maps_in (r ∷ rs) size a i n e = maps_in' r rs size a i n (stretch_r r size a) (stretch_in rs size a) refl (maps_in rs size a i n) e
 
-spot' : (s : decl.Stretch) (i : ℕ) → place_of s ≡ At i → (n : ℕ) × (s ≡ Run i n)
-spot' (Run j n) i e = let z : j ≡ i = cc in (n, ap (λ (x : ℕ). Run x n) z)
-spot' Nothing i e = absurd (let z : ◌≡◌ {A = ℕ} 0 1 = cc in omega arith)
+spot' : (s : Option Run) (i : ℕ) → place_of s ≡ Some i → (n : ℕ) × (s ≡ Some (run_of i n))
+spot' (Some u) i e = let z : u.at ≡ i = cc in (u.len, ap (λ (x : ℕ). Some (run_of x u.len)) z)
+spot' None i e = absurd cc
 
-pub spot_maps : (t : Table) (size a i : ℕ) → spot t size a ≡ At i → Maps t size a i
+pub spot_maps : (t : Table) (size a i : ℕ) → spot t size a ≡ Some i → Maps t size a i
 unfolding spot stretch_of Maps
 spot_maps t size a i e = let w = spot' (stretch_in (rows 8 t) size a) i e in maps_in (rows 8 t) size a i w.0 w.1
 
-pub spot_room : (t : Table) (size a i : ℕ) → spot t size a ≡ At i → i < size
+pub spot_room : (t : Table) (size a i : ℕ) → spot t size a ≡ Some i → i < size
 spot_room t size a i e = maps_room t size a i (spot_maps t size a i e)
 
 -- for callers of `find`
-pub spot_found : (t : Table) (size a : ℕ) (s r : decl.Stretch) → s ≡ stretch_of t size a → s ≡ r → spot t size a ≡ place_of r
+pub spot_found : (t : Table) (size a : ℕ) (s r : Option Run) → s ≡ stretch_of t size a → s ≡ r → spot t size a ≡ place_of r
 spot_found t size a s r e f = spot_is t size a ∙ ap place_of (sym e ∙ f)
 
 -- and an address that the table maps lies somewhere
-has_in' : (r : Row) (size a : ℕ) (s q : decl.Stretch) → stretch_r r size a ≡ s → ((i : ℕ) × Holds r size a i) ⊎ ((i : ℕ) × (place_of q ≡ At i)) → (i : ℕ) × (place_of (first_of s q) ≡ At i)
-has_in' r size a (Run i n) q e h = (i, refl)
-has_in' r size a Nothing q e (inl (i, h)) =
-    absurd (let y = stretch_r_in r size a i _ h refl in let z : ◌≡◌ {A = ℕ} 0 1 = cc in omega arith)
-has_in' r size a Nothing q e (inr h) = h
+has_in' : (r : Row) (size a : ℕ) (s q : Option Run) → stretch_r r size a ≡ s → ((i : ℕ) × Holds r size a i) ⊎ ((i : ℕ) × (place_of q ≡ Some i)) → (i : ℕ) × (place_of (option_or s q) ≡ Some i)
+has_in' r size a (Some u) q e h = (u.at, refl)
+has_in' r size a None q e (inl (i, h)) =
+    absurd (let y = stretch_r_in r size a i _ h refl in cc)
+has_in' r size a None q e (inr h) = h
 
-has_in : (rs : List Row) (size a i : ℕ) → MapsIn rs size a i → (j : ℕ) × (place_of (stretch_in rs size a) ≡ At j)
+has_in : (rs : List Row) (size a i : ℕ) → MapsIn rs size a i → (j : ℕ) × (place_of (stretch_in rs size a) ≡ Some j)
 unfolding stretch_in
 has_in [] size a i h = elim h [ ]
 has_in (r ∷ rs) size a i (inl h) = has_in' r size a (stretch_r r size a) (stretch_in rs size a) refl (inl (i, h))
 has_in (r ∷ rs) size a i (inr h) = has_in' r size a (stretch_r r size a) (stretch_in rs size a) refl (inr (has_in rs size a i h))
 
-pub maps_spot : (t : Table) (size a i : ℕ) → Maps t size a i → (j : ℕ) × (spot t size a ≡ At j)
+pub maps_spot : (t : Table) (size a i : ℕ) → Maps t size a i → (j : ℕ) × (spot t size a ≡ Some j)
 unfolding spot stretch_of Maps
 maps_spot t size a i h = has_in (rows 8 t) size a i h
 
 -- an address past 2 ^ 64 lies nowhere
-top' : (t : Table) (size a : ℕ) (p : Place) → spot t size a ≡ p → 2 ^ 64 ≤ a → p ≡ Nowhere
-top' t size a (At i) e h = absurd (let m = maps_top t size a i (spot_maps t size a i e) in omega arith)
-top' t size a Nowhere e h = refl
+top' : (t : Table) (size a : ℕ) (p : Option ℕ) → spot t size a ≡ p → 2 ^ 64 ≤ a → p ≡ None
+top' t size a (Some i) e h = absurd (let m = maps_top t size a i (spot_maps t size a i e) in omega arith)
+top' t size a None e h = refl
 
-pub spot_top : (t : Table) (size a : ℕ) → 2 ^ 64 ≤ a → spot t size a ≡ Nowhere
+pub spot_top : (t : Table) (size a : ℕ) → 2 ^ 64 ≤ a → spot t size a ≡ None
 spot_top t size a h = top' t size a (spot t size a) refl h
 
 -- ---- two properties of tables
@@ -317,24 +327,13 @@ pub one_single : (b l o : ℕ) → Single (b ∷ l ∷ o ∷ [])
 unfolding rows
 one_single b l o = apart_single (b ∷ l ∷ o ∷ []) (tt, tt)
 
--- ---- for loops over the rows: what is left of the table from word i on, k rows at most
-pub left : ℕ → ℕ → Table → List Row
-left k i t = rows k (drop i t)
+-- ---- for the iterator over the rows
+pub rows_none : (k : ℕ) (ws : List ℕ) → k ≡ 0 → rows k ws ≡ []
+unfolding rows
+rows_none zero ws e = refl
+rows_none (suc k) ws e = absurd (omega arith)
 
--- the row in the three words from i on
-abbrev pub row_at : Table → ℕ → Row
-row_at t i = row (get_or t i 0) (get_or t (i + 1) 0) (get_or t (i + 2) 0)
-
-pub left_all : (t : Table) → left 8 0 t ≡ rows 8 t
-unfolding left
-left_all t = refl
-
-pub left_none : (k i : ℕ) (t : Table) → k ≤ 0 → left k i t ≡ []
-unfolding left rows
-left_none zero i t h = refl
-left_none (suc k) i t h = absurd (omega arith)
-
-rows_short : (k : ℕ) (ws : List ℕ) → length ws < 3 → rows k ws ≡ []
+pub rows_short : (k : ℕ) (ws : List ℕ) → length ws < 3 → rows k ws ≡ []
 unfolding rows
 rows_short zero ws h = refl
 rows_short (suc k) [] h = refl
@@ -342,47 +341,46 @@ rows_short (suc k) (b ∷ []) h = refl
 rows_short (suc k) (b ∷ l ∷ []) h = refl
 rows_short (suc k) (b ∷ l ∷ o ∷ ws) h = absurd (omega arith)
 
-pub left_short : (k i : ℕ) (t : Table) → length t - i < 3 → left k i t ≡ []
-unfolding left
-left_short k i t h = rows_short k (drop i t) (rw length-drop h)
+-- the first row, and the others: what a slice has behind its first three words is this part of it
+pub rows_next : (k j : ℕ) (ws : List ℕ) → k ≡ j + 1 → 3 ≤ length ws → rows k ws ≡ row_at ws 0 ∷ rows j (take (length ws - 3) (drop 3 ws))
+unfolding rows
+rows_next k j [] e h = absurd (omega arith)
+rows_next k j (b ∷ []) e h = absurd (omega arith)
+rows_next k j (b ∷ l ∷ []) e h = absurd (omega arith)
+rows_next k j (b ∷ l ∷ o ∷ ws) e h =
+    let n : length (b ∷ l ∷ o ∷ ws) - 3 ≡ length ws = omega arith in
+    rw (n, e, add-one, take-length)
 
-pub left-row : (k i : ℕ) (t : Table) → 0 < k → i + 3 ≤ length t → left k i t ≡ row_at t i ∷ left (k - 1) (i + 3) t
-unfolding left rows
-left-row zero i t z h = absurd (omega arith)
-left-row (suc k) i t z h =
-    let x : suc k - 1 ≡ k = omega arith in
-    rw (x, add-one, add-two, add-three, drop-cons t i 0 (omega arith), drop-cons t (suc i) 0 (omega arith), drop-cons t (suc (suc i)) 0 (omega arith))
-
--- ---- for the proof of `find`
-pub stretch_all : (t : Table) (size a : ℕ) → stretch_of t size a ≡ stretch_in (left 8 0 t) size a
+-- ---- for the proof of `find_run`
+pub stretch_all : (t : Table) (size a : ℕ) → stretch_of t size a ≡ stretch_in (rows 8 t) size a
 unfolding stretch_of
-stretch_all t size a = rw left_all
+stretch_all t size a = refl
 
-pub stretch_nil : (rs : List Row) (size a : ℕ) → rs ≡ [] → stretch_in rs size a ≡ Nothing
-unfolding stretch_in
-stretch_nil rs size a e = rw e
-
-module _ (t : Table) (size a k i : ℕ) (z : 0 < k) (h : i + 3 ≤ length t) where
-  pub stretch_row : (s : decl.Stretch) → s ≡ stretch_r (row_at t i) size a → stretch_in (left k i t) size a ≡ first_of s (stretch_in (left (k - 1) (i + 3) t) size a)
+module _ (r : Row) (rs : List Row) (size a : ℕ) where
+  pub stretch_skip : stretch_r r size a ≡ None → stretch_in (r ∷ rs) size a ≡ stretch_in rs size a
   unfolding stretch_in
-  stretch_row s e = rw (left-row k i t z h, e)
+  stretch_skip e = rw e
+
+  pub stretch_take : (i n : ℕ) → stretch_r r size a ≡ Some (run_of i n) → stretch_in (r ∷ rs) size a ≡ Some (run_of i n)
+  unfolding stretch_in
+  stretch_take i n e = rw e
 
 -- ---- for the proof of `covers`
 -- from a stretch on, the table maps as many addresses as it says
 module _ (t : Table) (size a i n : ℕ) where
-  have' : (r : Row) (rs : List Row) (k x y : ℕ) → k < n → x ≡ a + k → y ≡ i + k → (s q : decl.Stretch) → stretch_r r size a ≡ s
-      → (q ≡ Run i n → MapsIn rs size x y) → first_of s q ≡ Run i n → Holds r size x y ⊎ MapsIn rs size x y
-  have' r rs k x y h u v (Run j l) q e f g =
+  have' : (r : Row) (rs : List Row) (k x y : ℕ) → k < n → x ≡ a + k → y ≡ i + k → (s q : Option Run) → stretch_r r size a ≡ s
+      → (q ≡ Some (run_of i n) → MapsIn rs size x y) → option_or s q ≡ Some (run_of i n) → Holds r size x y ⊎ MapsIn rs size x y
+  have' r rs k x y h u v (Some z) q e f g =
       let w = stretch_r_inv r size a i n (e ∙ g) in
       inl (record { above = omega arith; inside = omega arith; is = omega arith })
-  have' r rs k x y h u v Nothing q e f g = inr (f g)
+  have' r rs k x y h u v None q e f g = inr (f g)
 
-  have_in : (rs : List Row) (k x y : ℕ) → k < n → x ≡ a + k → y ≡ i + k → stretch_in rs size a ≡ Run i n → MapsIn rs size x y
+  have_in : (rs : List Row) (k x y : ℕ) → k < n → x ≡ a + k → y ≡ i + k → stretch_in rs size a ≡ Some (run_of i n) → MapsIn rs size x y
   unfolding stretch_in
-  have_in [] k x y h u v e = let z : ◌≡◌ {A = ℕ} 0 1 = cc in omega arith
+  have_in [] k x y h u v e = absurd cc
   have_in (r ∷ rs) k x y h u v e = have' r rs k x y h u v (stretch_r r size a) (stretch_in rs size a) refl (have_in rs k x y h u v) e
 
-  pub stretch_maps : stretch_of t size a ≡ Run i n → (k x y : ℕ) → k < n → x ≡ a + k → y ≡ i + k → Maps t size x y
+  pub stretch_maps : stretch_of t size a ≡ Some (run_of i n) → (k x y : ℕ) → k < n → x ≡ a + k → y ≡ i + k → Maps t size x y
   unfolding stretch_of Maps
   stretch_maps e k x y h u v = have_in (rows 8 t) k x y h u v e
 
@@ -416,22 +414,22 @@ passed_mono (r ∷ rs) size p q h =
 
 -- the end of a stretch passes one row more
 module _ (size a i n : ℕ) where
-  more' : (r : Row) (rs : List Row) (s q : decl.Stretch) → stretch_r r size a ≡ s
-      → (q ≡ Run i n → passed_in rs size a < passed_in rs size (a + n)) → first_of s q ≡ Run i n
+  more' : (r : Row) (rs : List Row) (s q : Option Run) → stretch_r r size a ≡ s
+      → (q ≡ Some (run_of i n) → passed_in rs size a < passed_in rs size (a + n)) → option_or s q ≡ Some (run_of i n)
       → pick (leb (r.base + extent r size) a) 1 0 + passed_in rs size a < pick (leb (r.base + extent r size) (a + n)) 1 0 + passed_in rs size (a + n)
-  more' r rs (Run j l) q e f g =
+  more' r rs (Some u) q e f g =
       let w = stretch_r_inv r size a i n (e ∙ g) in
       rw (lt-leb (r.base + extent r size) a w.0.inside, le-leb (r.base + extent r size) (a + n) (omega arith))
       (omega (arith, passed_mono rs size a (a + n) (omega arith)))
-  more' r rs Nothing q e f g =
+  more' r rs None q e f g =
       omega (arith, f g, tick_mono (r.base + extent r size) a (a + n) (omega arith) (leb (r.base + extent r size) a) (leb (r.base + extent r size) (a + n)) refl refl)
 
-  more_in : (rs : List Row) → stretch_in rs size a ≡ Run i n → passed_in rs size a < passed_in rs size (a + n)
+  more_in : (rs : List Row) → stretch_in rs size a ≡ Some (run_of i n) → passed_in rs size a < passed_in rs size (a + n)
   unfolding stretch_in passed_in
-  more_in [] e = absurd (let z : ◌≡◌ {A = ℕ} 0 1 = cc in omega arith)
+  more_in [] e = absurd cc
   more_in (r ∷ rs) e = more' r rs (stretch_r r size a) (stretch_in rs size a) refl (more_in rs) e
 
-  pub passed_more : (t : Table) → stretch_of t size a ≡ Run i n → passed t size a < passed t size (a + n)
+  pub passed_more : (t : Table) → stretch_of t size a ≡ Some (run_of i n) → passed t size a < passed t size (a + n)
   unfolding stretch_of passed
   passed_more t e = more_in (rows 8 t) e
 
@@ -443,17 +441,20 @@ length-rows (suc k) (b ∷ []) = omega arith
 length-rows (suc k) (b ∷ l ∷ []) = omega arith
 length-rows (suc k) (b ∷ l ∷ o ∷ ws) = omega (arith, length-rows k ws)
 
+pub few_rows : (t : Table) (rs : List Row) → rs ≡ rows 8 t → length rs ≤ 8
+few_rows t rs e = rw e (length-rows 8 t)
+
 -- where all rows are passed there is nothing
 none' : (r : Row) (rs : List Row) (size a : ℕ) (b : Bool) → leb (r.base + extent r size) a ≡ b → suc (length rs) ≤ pick b 1 0 + passed_in rs size a
-    → (length rs ≤ passed_in rs size a → stretch_in rs size a ≡ Nothing) → first_of (stretch_r r size a) (stretch_in rs size a) ≡ Nothing
+    → (length rs ≤ passed_in rs size a → stretch_in rs size a ≡ None) → option_or (stretch_r r size a) (stretch_in rs size a) ≡ None
 none' r rs size a true e h f = rw (stretch_r_above r size a (leb-true _ _ e)) (f (omega arith))
 none' r rs size a false e h f = absurd (omega (arith, passed_le rs size a))
 
-none_in : (rs : List Row) (size a : ℕ) → length rs ≤ passed_in rs size a → stretch_in rs size a ≡ Nothing
+none_in : (rs : List Row) (size a : ℕ) → length rs ≤ passed_in rs size a → stretch_in rs size a ≡ None
 unfolding stretch_in passed_in
 none_in [] size a h = refl
 none_in (r ∷ rs) size a h = none' r rs size a (leb (r.base + extent r size) a) refl h (none_in rs size a)
 
-pub passed_all : (t : Table) (size a : ℕ) → 8 ≤ passed t size a → stretch_of t size a ≡ Nothing
+pub passed_all : (t : Table) (size a : ℕ) → 8 ≤ passed t size a → stretch_of t size a ≡ None
 unfolding stretch_of passed
 passed_all t size a h = none_in (rows 8 t) size a (omega (arith, length-rows 8 t))

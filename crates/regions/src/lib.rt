@@ -1,95 +1,37 @@
 // SPDX-License-Identifier: Apache-2.0 AND BSD-3-Clause
 // The region table: which guest addresses there are, and where in the slice of guest memory each one lies.
 //
-// The table is lent and flat, three words a region: guest base, length, offset in the slice. At most eight rows count. A guest
-// address lies where the first row that holds it puts it. Every function is total: a row that runs past the slice or past 2^64
-// has no bytes there, and an incomplete row at the end counts for nothing.
+// The table is lent and flat, as the C interface has it, three words a region: guest base, length, offset in the slice. At most
+// eight rows count. A guest address lies where the first row that holds it puts it. Every function is total: a row that runs past
+// the slice or past 2^64 has no bytes there, and an incomplete row at the end counts for nothing.
 #![tactic(auto)]
 
-ghost use Rattle.std.specs.Prelude.{◌≡◌, ◌+◌, ◌≤◌, ◌<◌, ◌^◌, min};
-ghost use Rattle.regions.specs.Table.{row, extent, stretch_r, stretch_of};
-ghost use Rattle.regions.specs.Spots.{Sided, Seated, covered};
+ghost use Rattle.std.specs.Prelude.{◌≡◌, ◌+◌, ◌≤◌, ◌^◌};
+ghost use Rattle.std.specs.Iterator.{YieldsFirst, item_count};
+ghost use Rattle.regions.specs.Table.{extent, rows, rows_left, stretch_r, stretch_of};
+ghost use Rattle.regions.specs.Spots.{InRow, Sided, Seated, covered};
 
 // How many words of the table a region takes, and how many regions count.
 pub const REGION_WORDS: usize = 3;
 
 pub const REGIONS: usize = 8;
 
-// Where in the slice the bytes of an access begin, if they lie there in a row.
+// What a row has from a guest address on: where in the slice it lies, and how many bytes there are to the row's end.
 #[derive(Clone, Copy)]
-pub enum Place {
-    At(usize),
-    Nowhere,
+pub struct Run {
+    pub at: usize,
+    pub len: u64,
 }
 
-// What a row has from a guest address on: its place in the slice, and the number of bytes to the row's end.
+// A row of the table: the guest addresses from base on, len of them, lie in the slice from offset on.
 #[derive(Clone, Copy)]
-pub enum Stretch {
-    Run(usize, u64),
-    Nothing,
+pub struct Region {
+    pub base: u64,
+    pub len: u64,
+    pub offset: u64,
 }
 
-fn least(a: u64, b: u64) -> u64
-    ensures { result ≡ min a b }
-{
-    if a < b { a } else { b }
-}
-
-// How many bytes a row really has: as many as its length says, as the slice has behind its offset, and as lie below 2^64.
-fn extent_of(base: u64, len: u64, offset: u64, size: usize) -> u64
-    ensures { result ≡ extent (row base len offset) size }
-{
-    let all = size as u64;
-    if all <= offset {
-        return 0;
-    }
-    let room = all - offset;
-    let have = least(len, room);
-    if have == 0 {
-        return 0;
-    }
-    let top = u64::MAX - base;
-    if top < have - 1 { top + 1 } else { have }
-}
-
-fn row_from(base: u64, len: u64, offset: u64, size: usize, a: u64) -> Stretch
-    ensures { result ≡ stretch_r (row base len offset) size a }
-{
-    let have = extent_of(base, len, offset, size);
-    if a < base {
-        return Stretch::Nothing;
-    }
-    let d = a - base;
-    if have <= d {
-        return Stretch::Nothing;
-    }
-    Stretch::Run((offset + d) as usize, have - d)
-}
-
-// What the first row that holds guest address a has from there on.
-pub fn find(regions: &[u64], size: usize, a: u64) -> Stretch
-    ensures { result ≡ stretch_of regions.now size a }
-{
-    let mut at: usize = 0;
-    let mut rows: usize = REGIONS;
-    while 0 < rows {
-        if regions.len() - at < REGION_WORDS {
-            return Stretch::Nothing;
-        }
-        match row_from(regions[at], regions[at + 1], regions[at + 2], size, a) {
-            Stretch::Run(i, n) => {
-                return Stretch::Run(i, n);
-            }
-            Stretch::Nothing => {
-                at += REGION_WORDS;
-                rows -= 1;
-            }
-        }
-    }
-    Stretch::Nothing
-}
-
-// What one row says of the n bytes from guest address a on.
+// What one row says of the n bytes from a guest address on.
 #[derive(Clone, Copy)]
 pub enum Side {
     // it holds them all, from this place on
@@ -100,96 +42,162 @@ pub enum Side {
     Split,
 }
 
-fn side_of(base: u64, len: u64, offset: u64, size: usize, a: u64, n: u64) -> Side
-    requires { a + n ≤ 2 ^ 64 }
-    ensures { Sided (row base len offset) size a n result }
-{
-    let all = size as u64;
-    if all < offset {
-        return Side::Away;
+impl Region {
+    // How many bytes a row really has: as many as its length says, as the slice has behind its offset, and as lie below 2^64.
+    #[tactic(auto, unfolding(crate::specs::Table::extent))]
+    fn extent(self, size: usize) -> u64
+        ensures { result ≡ extent self size }
+    {
+        let room = (size as u64).saturating_sub(self.offset);
+        let below = (u64::MAX - self.base).saturating_add(1);
+        self.len.min(room).min(below)
     }
-    let rest = all - offset;
-    let held = least(len, rest);
-    if a < base {
-        if n <= base - a {
+
+    #[tactic(auto, unfolding(crate::specs::Table::extent, crate::specs::Table::stretch_r))]
+    fn stretch(self, size: usize, a: u64) -> Option<Run>
+        ensures { result ≡ stretch_r self size a }
+    {
+        let d = a.checked_sub(self.base)?;
+        let have = self.extent(size);
+        if have <= d {
+            return None;
+        }
+        Some(Run {
+            at: (self.offset + d) as usize,
+            len: have - d,
+        })
+    }
+
+    // By way of stretch it would be shorter; but in the round of bench/ over eight regions locate then takes a third more instructions.
+    #[tactic(auto, using(crate::specs::Spots::sided_all, crate::specs::Spots::sided_away, crate::specs::Spots::all_in), unfolding(crate::specs::Table::extent))]
+    fn side(self, size: usize, a: u64, n: u64) -> Side
+        requires { a + n ≤ 2 ^ 64 }
+        ensures { Sided self size a n result }
+    {
+        let Some(room) = (size as u64).checked_sub(self.offset) else {
+            return Side::Away;
+        };
+        let held = self.len.min(room);
+        let Some(d) = a.checked_sub(self.base) else {
+            return if n <= self.base - a {
+                Side::Away
+            } else {
+                Side::Split
+            };
+        };
+        if held <= d {
             return Side::Away;
         }
-        return Side::Split;
+        if held - d < n {
+            return Side::Split;
+        }
+        Side::All((self.offset + d) as usize)
     }
-    let d = a - base;
-    if held <= d {
-        return Side::Away;
+
+    // Where an access of n bytes at addr + off lies, if this row holds all of it; None says nothing. There is no loop here and no further
+    // call: so it is built into the accesses, which try the table's first row with it before they call anything. (By way of stretch it
+    // would be shorter, and take 17.7 instructions for 13.2.)
+    #[tactic(auto, using(crate::specs::Spots::in_row), unfolding(crate::specs::Table::extent))]
+    pub fn seat(self, size: usize, addr: u64, off: u32, n: u32) -> Option<usize>
+        ensures { InRow self size (addr + off) n result }
+    {
+        let span = off as u64 + n as u64;
+        addr.checked_add(span)?;
+        let d = (addr + off as u64).checked_sub(self.base)?;
+        let end = d + n as u64;
+        let room = (size as u64).checked_sub(self.offset)?;
+        if self.len < end {
+            return None;
+        }
+        if room < end {
+            return None;
+        }
+        Some((self.offset + d) as usize)
     }
-    if held - d < n {
-        return Side::Split;
-    }
-    Side::All((offset + d) as usize)
 }
 
-// Whether one row holds all of an access of n bytes at addr + off. There is no loop here and no further call: so it is built into the
-// accesses, which try the table's first row with it before they call anything.
-pub fn seat(base: u64, len: u64, offset: u64, size: usize, addr: u64, off: u32, n: u32) -> Side
-    ensures { Sided (row base len offset) size (addr + off) n result }
+// The rows of a table, from the first to the eighth: `chunks_exact(3).take(8).map(..)` with a name, since a function can't answer
+// `impl Iterator`.
+#[derive(Drop)]
+pub struct Rows<'a> {
+    words: &'a [u64],
+    count: usize,
+}
+
+impl<'a> Rows<'a> {
+    pub fn of(regions: &'a [u64]) -> Rows<'a>
+        ensures { rows_left result ≡ rows REGIONS regions.now }
+    {
+        Rows {
+            words: regions,
+            count: REGIONS,
+        }
+    }
+}
+
+impl<'a> Iterator for Rows<'a> {
+    type Item = Region;
+
+    ghost next_gives = { YieldsFirst rows_left };
+
+    ghost remaining = { item_count rows_left };
+
+    fn next(&mut self) -> Option<Region> {
+        self.count = self.count.checked_sub(1)?;
+        let [base, len, offset, more @ ..] = self.words else {
+            return None;
+        };
+        self.words = more;
+        Some(Region {
+            base: *base,
+            len: *len,
+            offset: *offset,
+        })
+    }
+}
+
+// What the first row that holds guest address a has from there on.
+pub fn find(regions: &[u64], size: usize, a: u64) -> Option<Run>
+    ensures { result ≡ stretch_of regions.now size a }
 {
-    let span = off as u64 + n as u64;
-    if u64::MAX - addr < span {
-        return Side::Split;
-    }
-    let a = addr + off as u64;
-    if a < base {
-        return Side::Split;
-    }
-    let end = a - base + n as u64;
-    if len < end {
-        return Side::Split;
-    }
-    let all = size as u64;
-    if all < offset {
-        return Side::Split;
-    }
-    if all - offset < end {
-        return Side::Split;
-    }
-    Side::All((offset + (a - base)) as usize)
+    Rows::of(regions).find_map(|row| row.stretch(size, a))
 }
 
 // The fast way: the first row that holds any of the n bytes, if it holds them all.
-fn find_run(regions: &[u64], size: usize, a: u64, n: u64) -> Place
+fn find_run(regions: &[u64], size: usize, a: u64, n: u64) -> Option<usize>
     requires { a + n ≤ 2 ^ 64 }
     ensures { Seated regions.now size a n result }
 {
-    let mut at: usize = 0;
-    let mut rows: usize = REGIONS;
-    while 0 < rows {
-        if regions.len() - at < REGION_WORDS {
-            return Place::Nowhere;
-        }
-        match side_of(regions[at], regions[at + 1], regions[at + 2], size, a, n) {
+    for row in Rows::of(regions) {
+        match row.side(size, a, n) {
             Side::All(i) => {
-                return Place::At(i);
+                return Some(i);
             }
-            Side::Away => {
-                at += REGION_WORDS;
-                rows -= 1;
-            }
+            Side::Away => {}
             Side::Split => {
-                return Place::Nowhere;
+                return None;
             }
         }
     }
-    Place::Nowhere
+    None
 }
 
-// Where an access of n bytes at addr + off lies, if in one run. Nowhere says nothing: then the bytes are looked for one by one. (So
+// Where an access of n bytes at addr + off lies, if in one run. None says nothing: then the bytes are looked for one by one. (So
 // the one test against 2^64 may refuse the last byte of all: the slow way finds it.)
-pub fn locate(regions: &[u64], size: usize, addr: u64, off: u32, n: u32) -> Place
+// addr and off stay two, since the one test of their sum against 2^64 is made here; and size is all of the slice that this crate needs.
+pub fn locate(regions: &[u64], size: usize, addr: u64, off: u32, n: u32) -> Option<usize>
     ensures { Seated regions.now size (addr + off) n result }
 {
     let reach = off as u64 + n as u64;
-    if u64::MAX - addr < reach {
-        return Place::Nowhere;
-    }
+    addr.checked_add(reach)?;
     find_run(regions, size, addr + off as u64, n as u64)
+}
+
+// As locate, but the table's first row alone is tried.
+pub fn locate_first(regions: &[u64], size: usize, addr: u64, off: u32, n: u32) -> Option<usize>
+    ensures { Seated regions.now size (addr + off) n result }
+{
+    Rows::of(regions).next()?.seat(size, addr, off, n)
 }
 
 // Whether each of the n bytes from guest address addr on has a place: row by row, in at most eight steps, whatever n is.
@@ -198,27 +206,21 @@ pub fn covers(regions: &[u64], size: usize, addr: u64, n: u64) -> bool
 {
     let mut a = addr;
     let mut left = n;
-    let mut steps: usize = REGIONS;
     if left == 0 {
         return true;
     }
-    while 0 < steps {
-        match find(regions, size, a) {
-            Stretch::Run(_, have) => {
-                if left <= have {
-                    return true;
-                }
-                if u64::MAX - a < have {
-                    return false;
-                }
-                a += have;
-                left -= have;
-                steps -= 1;
-            }
-            Stretch::Nothing => {
-                return false;
-            }
+    for _ in 0..REGIONS {
+        let Some(run) = find(regions, size, a) else {
+            return false;
+        };
+        if left <= run.len {
+            return true;
         }
+        let Some(next) = a.checked_add(run.len) else {
+            return false;
+        };
+        a = next;
+        left -= run.len;
     }
     false
 }

@@ -1,12 +1,20 @@
 // SPDX-License-Identifier: Apache-2.0 AND BSD-3-Clause
 // The chain commands.
-use chain::{DescriptorChain, Step};
+use chain::DescriptorChain;
+use desc::Descriptor;
+use lines::checks::Ready;
 use lines::state::{Answer, Done, State};
 use script::commands::Command;
 
 // `next`, `readable`, `writable`, and else `walk`.
-pub fn walk(c: Command, walked: DescriptorChain, st: State, image: &[u8], table: &[u64]) -> Done {
-    match c {
+pub fn walk(
+    ready: &Ready,
+    walked: DescriptorChain,
+    st: State,
+    image: &[u8],
+    table: &[u64],
+) -> Done {
+    match ready.command {
         Command::Next => stepped(st, walked, walked.next(table, image)),
         Command::Readable => stepped(
             st,
@@ -23,10 +31,10 @@ pub fn walk(c: Command, walked: DescriptorChain, st: State, image: &[u8], table:
 }
 
 // A step, or none: then `rest` is what the chain has come to.
-fn stepped(st: State, rest: DescriptorChain, step: Step) -> Done {
+fn stepped(st: State, rest: DescriptorChain, step: Option<(Descriptor, DescriptorChain)>) -> Done {
     match step {
-        Step::Next(d, after) => st.with_chain(after).answers(Answer::Next(d)),
-        Step::End => st.with_chain(rest).answers(Answer::Nothing),
+        Some((d, after)) => st.with_chain(after).answers(Answer::Next(d)),
+        None => st.with_chain(rest).answers(Answer::Nothing),
     }
 }
 
@@ -39,28 +47,26 @@ struct Ended {
 }
 
 fn whole(st: State, e: Ended) -> Done {
-    let rest = e.rest;
-    st.with_chain(rest)
+    st.with_chain(e.rest)
         .answers(Answer::Walked(e.count, script::crc::crc_end(e.sum)))
 }
 
 // Each descriptor takes one from the ration, so there are no more of them than the ration says.
 fn to_end(walked: DescriptorChain, image: &[u8], table: &[u64]) -> Ended {
-    let mut rest = walked;
-    let mut count: u16 = 0;
-    let mut sum = script::crc::crc_start();
-    while count < walked.ttl {
-        match rest.next(table, image) {
-            Step::Next(d, after) => {
-                let bytes = d.to_bytes();
-                sum = script::crc::crc_more(sum, &bytes);
-                rest = after;
-                count += 1;
-            }
-            Step::End => {
-                break;
-            }
-        }
+    let mut e = Ended {
+        count: 0,
+        sum: script::crc::crc_start(),
+        rest: walked,
+    };
+    for i in 0..walked.ttl {
+        let Some((d, after)) = e.rest.next(table, image) else {
+            break;
+        };
+        e = Ended {
+            count: i + 1,
+            sum: script::crc::crc_more(e.sum, &d.to_bytes()),
+            rest: after,
+        };
     }
-    Ended { count, sum, rest }
+    e
 }

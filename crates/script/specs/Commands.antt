@@ -1,9 +1,11 @@
 -- SPDX-License-Identifier: Apache-2.0 AND BSD-3-Clause
 -- The commands by their names, and which of them a word names. Assumes nothing.
-use Rattle.std.specs.Prelude.{ℕ, ◌≡◌, refl, Bool, true, false, cond, ◌&&◌, List, [], ◌∷◌, eqb}
+use Rattle.std.specs.Prelude.{ℕ, ◌≡◌, refl, Bool, true, false, cond, ◌&&◌, List, [], ◌∷◌, eqb, ltb, zero, suc, IsUtf8, IsAscii, Option, Some, None}
 use Prim.Native.String.{String}
-use Rattle.std.proofs.Common.{ap₂, eqb-true, eq-eqb}
+use Rattle.std.proofs.Common.{ap₂, arith, eqb-true, eq-eqb, ltb-true}
 use Rattle.std.proofs.lemmas.Bool.{false≢true}
+use Rattle.std.specs.List.{list_all}
+use Rattle.std.proofs.lemmas.Str.{IsUtf8-from_ascii}
 use Rattle.script.specs.Text.{text_bytes}
 use Rattle.script.specs.declared.commands.Command.{Command}
 use Rattle.script.specs.declared.commands.Command.TheVariants.{
@@ -42,7 +44,6 @@ use Rattle.script.specs.declared.commands.Command.TheVariants.{
   Ask,
   Question,
   State,
-  Unknown,
 }
 
 -- the commands by their names
@@ -93,20 +94,30 @@ same_bytes (x ∷ xs) [] = false
 same_bytes (x ∷ xs) (y ∷ ys) = eqb x y && same_bytes xs ys
 
 -- the command that stands beside the word in a table
-unfoldable pub command_in : List (String × Command) → List ℕ → Command
-command_in [] word = Unknown
-command_in (row ∷ rows) word = cond (same_bytes word (text_bytes row.0)) row.1 (command_in rows word)
+unfoldable pub command_in : List (String × Command) → List ℕ → Option Command
+command_in [] word = None
+command_in (row ∷ rows) word = cond (same_bytes word (text_bytes row.0)) (Some row.1) (command_in rows word)
 
 -- the command that a word names
-unfoldable pub command_of : List ℕ → Command
+unfoldable pub command_of : List ℕ → Option Command
 command_of word = command_in table word
 
 -- ---- laws
 
 -- no word is no command
-pub command_of_nothing : command_of [] ≡ Unknown
+pub command_of_nothing : command_of [] ≡ None
 unfolding command_of command_in table text_bytes same_bytes
 command_of_nothing = refl
+
+-- a word that is none of a table's names
+abbrev pub NoName : List (String × Command) → List ℕ → Type 0
+NoName [] word = Unit {0}
+NoName (row ∷ rows) word = (word ≡ text_bytes row.0 → ⊥) × NoName rows word
+
+-- all names are in ASCII
+abbrev pub in_ascii : List (String × Command) → Bool
+in_ascii [] = true
+in_ascii (row ∷ rows) = list_all (λ b. ltb b 128) (text_bytes row.0) && in_ascii rows
 
 both_true : (a b : Bool) → (a && b) ≡ true → (a ≡ true) × (b ≡ true)
 both_true true b e = (refl, e)
@@ -135,3 +146,28 @@ same_bytes_no a b h = told (same_bytes a b) refl
     told : (t : Bool) → same_bytes a b ≡ t → same_bytes a b ≡ false
     told true e = absurd (h (same_bytes_equal a b e))
     told false e = e
+
+command_in_none : (rows : List (String × Command)) (word : List ℕ) → NoName rows word → None ≡ command_in rows word
+unfolding command_in
+command_in_none [] word h = refl
+command_in_none (row ∷ rows) word h = rw (same_bytes_no word (text_bytes row.0) h.0) (command_in_none rows word h.1)
+
+pub command_of_none : (word : List ℕ) → NoName table word → None ≡ command_of word
+unfolding command_of
+command_of_none word h = command_in_none table word h
+
+ascii : (bytes : List ℕ) → list_all (λ b. ltb b 128) bytes ≡ true → IsAscii bytes
+ascii [] e i = omega arith
+ascii (b ∷ rest) e zero = ltb-true b 128 (both_true (ltb b 128) (list_all (λ x. ltb x 128) rest) e).0
+ascii (b ∷ rest) e (suc i) = ascii rest (both_true (ltb b 128) (list_all (λ x. ltb x 128) rest) e).1 i
+
+no_name : (rows : List (String × Command)) (word : List ℕ) → in_ascii rows ≡ true → (IsUtf8 word → ⊥) → NoName rows word
+no_name [] word e h = tt
+no_name (row ∷ rows) word e h =
+    let parts = both_true (list_all (λ b. ltb b 128) (text_bytes row.0)) (in_ascii rows) e in
+    (λ same. h (rw same (IsUtf8-from_ascii (text_bytes row.0) (ascii (text_bytes row.0) parts.0))), no_name rows word parts.1 h)
+
+-- bytes that are no text are no name
+pub command_of_no_text : (word : List ℕ) → (IsUtf8 word → ⊥) → None ≡ command_of word
+unfolding table text_bytes
+command_of_no_text word h = command_of_none word (no_name table word refl h)

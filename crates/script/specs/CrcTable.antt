@@ -65,3 +65,6 @@ by_table t c b e =
     (ap (λ (l : List ℕ). get_or l (bit_xor c b % 256) 0) e ∙ tabled_at (bits_out 8) 0 256 (bit_xor c b % 256) (omega arith)
     ∙ ap (bits_out 8) (zero-add (bit_xor c b % 256)))
     ∙ sym (bits_out_low 8 (bit_xor c b))
+
+-- the laws by which the table is looked up
+pub ruleset entries = (byte_table-length, by_table)

@@ -1,11 +1,11 @@
 -- SPDX-License-Identifier: Apache-2.0 AND BSD-3-Clause
 -- What the words of a line are, said of its bytes. Assumes nothing.
-use Rattle.std.specs.Prelude.{ℕ, zero, suc, ◌+◌, ◌-◌, ◌≤◌, ◌<◌, ◌≡◌, refl, ◌⊎◌, List, [], ◌∷◌, length, get_or, drop}
-use Rattle.std.proofs.Common.{sym, ap, ◌∙◌, inl, inr, arith, length-drop, get_or-drop}
+use Rattle.std.specs.Prelude.{ℕ, zero, suc, ◌+◌, ◌-◌, ◌≤◌, ◌<◌, ◌≡◌, refl, ◌⊎◌, List, [], ◌∷◌, length, get_or, drop, Option, Some, None}
+use Rattle.std.proofs.Common.{sym, ap, ◌∙◌, inl, inr, add-zero, arith, length-drop, get_or-drop}
+use Rattle.std.proofs.lemmas.Option.{some_pair_parts}
 use Rattle.script.specs.declared.words.Kind.{Kind}
 use Rattle.script.specs.declared.words.Kind.TheVariants.{Blank, Comment, Letter}
-use Rattle.script.specs.declared.words.Word.TheVariants.{At, NoMore}
-use Rattle.script.specs.Words.{kind_of, end_by, word_end, start_by, first_word, word_from}
+use Rattle.script.specs.Words.{kind_of, end_by, word_end, word_end_run, start_by, first_word, word_from}
 
 -- the word from start up to end is the first one from a place on: before it stand blanks alone, and no `#`; it has at least one
 -- byte, all of its bytes are letters, and it ends at the line's end or before a byte that is none
@@ -126,25 +126,24 @@ first_later b i s e rest h f = record {
     at_end (suc x) p q r = f.stops x (omega arith) (omega arith) r
 
 first_by : (k : Kind) (b i s e : ℕ) (rest : List ℕ) → kind_of b ≡ k
-    → (first_word (suc i) rest ≡ At s e → First (suc i) rest s e)
-    → start_by k (At i (word_end (suc i) rest)) (first_word (suc i) rest) ≡ At s e → First i (b ∷ rest) s e
+    → (first_word (suc i) rest ≡ Some (s, e) → First (suc i) rest s e)
+    → start_by k (Some (i, word_end (suc i) rest)) (first_word (suc i) rest) ≡ Some (s, e) → First i (b ∷ rest) s e
 first_by Blank b i s e rest h f p = first_later b i s e rest h (f p)
 first_by Comment b i s e rest h f p = let z : ◌≡◌ {A = ℕ} 0 1 = cc in absurd (omega arith)
 first_by Letter b i s e rest h f p =
-    let here : i ≡ s = cc in
-    let there : word_end (suc i) rest ≡ e = cc in
+    let same = some_pair_parts i s (word_end (suc i) rest) e p in
     let w = ends (suc i) rest in
-    rw (← here, ← there) (first_here b i (word_end (suc i) rest) rest w.least (ends_later b i (word_end (suc i) rest) rest h w))
+    rw (← same.0, ← same.1) (first_here b i (word_end (suc i) rest) rest w.least (ends_later b i (word_end (suc i) rest) rest h w))
 
-first : (i s e : ℕ) (l : List ℕ) → first_word i l ≡ At s e → First i l s e
+first : (i s e : ℕ) (l : List ℕ) → first_word i l ≡ Some (s, e) → First i l s e
 unfolding first_word
 first i s e [] p = let z : ◌≡◌ {A = ℕ} 0 1 = cc in absurd (omega arith)
 first i s e (b ∷ rest) p = first_by (kind_of b) b i s e rest refl (first (suc i) s e rest) p
 
 -- where no word is, a letter at x stands behind a `#`
 hash_first : (k : Kind) (b i x : ℕ) (rest : List ℕ) → kind_of b ≡ k
-    → ((y : ℕ) → first_word (suc i) rest ≡ NoMore → y < length rest → kind_of (get_or rest y 0) ≡ Letter → Hidden rest 0 y)
-    → start_by k (At i (word_end (suc i) rest)) (first_word (suc i) rest) ≡ NoMore → x < length (b ∷ rest)
+    → ((y : ℕ) → first_word (suc i) rest ≡ None → y < length rest → kind_of (get_or rest y 0) ≡ Letter → Hidden rest 0 y)
+    → start_by k (Some (i, word_end (suc i) rest)) (first_word (suc i) rest) ≡ None → x < length (b ∷ rest)
     → kind_of (get_or (b ∷ rest) x 0) ≡ Letter → Hidden (b ∷ rest) 0 x
 hash_first Letter b i x rest h f p q r = let z : ◌≡◌ {A = ℕ} 0 1 = cc in absurd (omega arith)
 hash_first Comment b i zero rest h f p q r = absurd (not_letter (kind_of b) (inr h) r)
@@ -154,14 +153,14 @@ hash_first Blank b i (suc x) rest h f p q r =
     let d = f x p (omega arith) r in
     record { place = suc d.place; after = omega arith; before = (let m = d.before in omega arith); hash = d.hash }
 
-hash : (i x : ℕ) (l : List ℕ) → first_word i l ≡ NoMore → x < length l → kind_of (get_or l x 0) ≡ Letter → Hidden l 0 x
+hash : (i x : ℕ) (l : List ℕ) → first_word i l ≡ None → x < length l → kind_of (get_or l x 0) ≡ Letter → Hidden l 0 x
 unfolding first_word
 hash i x [] p q r = absurd (omega arith)
 hash i x (b ∷ rest) p q r = hash_first (kind_of b) b i x rest refl (λ y. hash (suc i) y rest) p q r
 
 -- ---- the same of a line
 
-pub word_from_word : (line : List ℕ) (from start end : ℕ) → word_from line from ≡ At start end → FirstWord line from start end
+pub word_from_word : (line : List ℕ) (from start end : ℕ) → word_from line from ≡ Some (start, end) → FirstWord line from start end
 unfolding word_from
 word_from_word line from start end p =
     let f = first from start end (drop from line) p in
@@ -191,7 +190,7 @@ hidden_from line from x d =
       hash = ap kind_of (sym (get_or-drop from line d.place 0)) ∙ d.hash;
     }
 
-pub word_from_none : (line : List ℕ) (from k : ℕ) → word_from line from ≡ NoMore → from ≤ k → k < length line
+pub word_from_none : (line : List ℕ) (from k : ℕ) → word_from line from ≡ None → from ≤ k → k < length line
     → kind_of (get_or line k 0) ≡ Letter → Hidden line from k
 unfolding word_from
 word_from_none line from k p h q r =
@@ -199,3 +198,30 @@ word_from_none line from k p h q r =
     let e : from + (k - from) ≡ k = omega arith in
     let letter : kind_of (get_or (drop from line) (k - from) 0) ≡ Letter = rw (get_or-drop from line (k - from) 0, e) r in
     rw e at (hidden_from line from (k - from) (hash from (k - from) (drop from line) p (omega arith) letter))
+
+-- ---- from a place on, as at the start of what follows it
+
+-- the places of a word in a line, of those in what follows a place
+abbrev pub moved : ℕ → Option (ℕ × ℕ) → Option (ℕ × ℕ)
+moved from None = None
+moved from (Some p) = Some (from + p.0, from + p.1)
+
+moved_by : (k : Kind) (i j : ℕ) (rest : List ℕ) → first_word (suc (i + j)) rest ≡ moved i (first_word (suc j) rest)
+    → start_by k (Some (i + j, word_end (suc (i + j)) rest)) (first_word (suc (i + j)) rest)
+    ≡ moved i (start_by k (Some (j, word_end (suc j) rest)) (first_word (suc j) rest))
+moved_by Blank i j rest h = h
+moved_by Comment i j rest h = refl
+moved_by Letter i j rest h =
+    let e : word_end (suc (i + j)) rest ≡ i + word_end (suc j) rest = omega (arith, word_end_run (suc (i + j)) rest, word_end_run (suc j) rest) in
+    ap (λ (x : ℕ). Some (i + j, x)) e
+
+first_word_moved : (i j : ℕ) (l : List ℕ) → first_word (i + j) l ≡ moved i (first_word j l)
+unfolding first_word
+first_word_moved i j [] = refl
+first_word_moved i j (b ∷ rest) =
+    let e : i + suc j ≡ suc (i + j) = omega arith in
+    moved_by (kind_of b) i j rest (rw e at (first_word_moved i (suc j) rest))
+
+pub word_from_rest : (line : List ℕ) (from : ℕ) → word_from line from ≡ moved from (word_from (drop from line) 0)
+unfolding word_from
+word_from_rest line from = rw add-zero at (first_word_moved from 0 (drop from line))

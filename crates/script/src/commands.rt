@@ -1,11 +1,9 @@
 // SPDX-License-Identifier: Apache-2.0 AND BSD-3-Clause
 // The commands, and which of them a word names.
-ghost use Rattle.std.specs.Prelude.{◌≡◌, get_or};
-ghost use Rattle.script.specs.Words.{word_bytes};
-ghost use Rattle.script.specs.Commands.{table, command_of};
-ghost use Rattle.script.specs.Names.{commands_of, names_in, place_of};
+ghost use Rattle.std.specs.Prelude.{◌≡◌};
+ghost use Rattle.script.specs.Commands.{command_of};
 
-#[derive(Clone, Copy)]
+#[derive(Clone, Copy, Debug, PartialEq, Eq)]
 pub enum Command {
     Memory,
     Region,
@@ -42,92 +40,57 @@ pub enum Command {
     Ask,
     Question,
     State,
-    Unknown,
 }
 
-// The command that the word from start up to end names.
-pub fn command_at(line: &[u8], start: usize, end: usize) -> Command
-    ensures { result ≡ command_of (word_bytes line.now start end) }
-{
-    if line.len() < end {
-        return Command::Unknown;
-    }
-    if end <= start {
-        return Command::Unknown;
-    }
-    command_of(&line[start..end])
-}
-
-fn command_of(word: &[u8]) -> Command
+// The command that a word names.
+// (No FromStr: its error would say no more than None.)
+#[tactic(auto, using(crate::specs::Commands::command_of_no_text))]
+pub fn command_of(word: &[u8]) -> Option<Command>
     ensures { result ≡ command_of word.now }
 {
-    nth(place_of(
-        word,
-        b"memory region bytes fill u16 u32 u64 desc dump sum queue size table avail used ready event next-avail next-used reset valid begin head pop back chain next readable writable walk put stop ask question state ",
-    ))
+    named(std::str::from_utf8(word).ok()?)
 }
 
-// The place of a word among the names of a text, each ended by a space; how many they are where it is none of them.
-fn place_of(word: &[u8], names: &[u8]) -> usize
-    ensures { result ≡ place_of word.now (names_in names.now) }
+#[tactic(auto, unfolding(crate::specs::Commands::command_of, crate::specs::Commands::command_in, crate::specs::Commands::table, crate::specs::Commands::same_bytes, crate::specs::Text::text_bytes))]
+fn named(word: &str) -> Option<Command>
+    ensures { result ≡ command_of word.now }
 {
-    let mut place = 0;
-    let mut at = 0;
-    while at < names.len() {
-        let end = crate::scan::find(names, at, names.len(), b' ');
-        if check::same(word, &names[at..end]) {
-            return place;
-        }
-        place += 1;
-        at = end + 1;
-    }
-    place
-}
-
-const COMMANDS: [Command; 35] = [
-    Command::Memory,
-    Command::Region,
-    Command::Bytes,
-    Command::Fill,
-    Command::U16,
-    Command::U32,
-    Command::U64,
-    Command::Desc,
-    Command::Dump,
-    Command::Sum,
-    Command::Queue,
-    Command::Size,
-    Command::Table,
-    Command::Avail,
-    Command::Used,
-    Command::Ready,
-    Command::Event,
-    Command::NextAvail,
-    Command::NextUsed,
-    Command::Reset,
-    Command::Valid,
-    Command::Begin,
-    Command::Head,
-    Command::Pop,
-    Command::Back,
-    Command::Chain,
-    Command::Next,
-    Command::Readable,
-    Command::Writable,
-    Command::Walk,
-    Command::Put,
-    Command::Stop,
-    Command::Ask,
-    Command::Question,
-    Command::State,
-];
-
-fn nth(place: usize) -> Command
-    ensures { result ≡ get_or (commands_of table) place Command.Unknown }
-{
-    if place < 35 {
-        COMMANDS[place]
-    } else {
-        Command::Unknown
+    match word {
+        "memory" => Some(Command::Memory),
+        "region" => Some(Command::Region),
+        "bytes" => Some(Command::Bytes),
+        "fill" => Some(Command::Fill),
+        "u16" => Some(Command::U16),
+        "u32" => Some(Command::U32),
+        "u64" => Some(Command::U64),
+        "desc" => Some(Command::Desc),
+        "dump" => Some(Command::Dump),
+        "sum" => Some(Command::Sum),
+        "queue" => Some(Command::Queue),
+        "size" => Some(Command::Size),
+        "table" => Some(Command::Table),
+        "avail" => Some(Command::Avail),
+        "used" => Some(Command::Used),
+        "ready" => Some(Command::Ready),
+        "event" => Some(Command::Event),
+        "next-avail" => Some(Command::NextAvail),
+        "next-used" => Some(Command::NextUsed),
+        "reset" => Some(Command::Reset),
+        "valid" => Some(Command::Valid),
+        "begin" => Some(Command::Begin),
+        "head" => Some(Command::Head),
+        "pop" => Some(Command::Pop),
+        "back" => Some(Command::Back),
+        "chain" => Some(Command::Chain),
+        "next" => Some(Command::Next),
+        "readable" => Some(Command::Readable),
+        "writable" => Some(Command::Writable),
+        "walk" => Some(Command::Walk),
+        "put" => Some(Command::Put),
+        "stop" => Some(Command::Stop),
+        "ask" => Some(Command::Ask),
+        "question" => Some(Command::Question),
+        "state" => Some(Command::State),
+        _ => None,
     }
 }

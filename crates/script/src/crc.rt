@@ -5,6 +5,7 @@ ghost use Rattle.script.specs.Crc.{crc_byte, crc_on, crc_start, crc_end, crc_of}
 ghost use Rattle.script.specs.CrcTable.{byte_table};
 
 // The checksum of all the bytes.
+#[tactic(auto, unfolding(crate::specs::Crc::crc_of))]
 pub fn crc32(bytes: &[u8]) -> u32
     ensures { result ≡ crc_of bytes.now }
 {
@@ -19,6 +20,7 @@ pub fn crc_start() -> u32
 }
 
 // The state after the bytes of a part.
+#[tactic(auto, unfolding(crate::specs::CrcTable::byte_table, crate::specs::CrcTable::tabled, crate::specs::Crc::bits_out, crate::specs::Crc::bit_out))]
 pub fn crc_more(state: u32, part: &[u8]) -> u32
     ensures { result ≡ crc_on state part.now }
 {
@@ -33,32 +35,26 @@ pub fn crc_end(state: u32) -> u32
 }
 
 // The table is lent: a constant that is indexed in the loop would be laid out on the stack anew for each byte.
+#[tactic(auto, unfolding(crate::specs::Crc::crc_on))]
 fn crc_by(table: &[u32], state: u32, part: &[u8]) -> u32
     requires { table.now ≡ byte_table }
     ensures { result ≡ crc_on state part.now }
 {
     let mut c = state;
-    let mut i = 0;
-    while i < part.len() {
-        c = step(table, c, part[i]);
-        i += 1;
+    for b in part {
+        c = step(table, c, *b);
     }
     c
 }
 
 // A byte goes in at the low end of the state, and eight bits go out.
+#[tactic(auto, using(crate::specs::CrcTable::entries))]
 fn step(table: &[u32], state: u32, b: u8) -> u32
     requires { table.now ≡ byte_table }
     ensures { result ≡ crc_byte state b }
 {
-    let x = state ^ wide(b);
+    let x = state ^ u32::from(b);
     table[(x % 256) as usize] ^ (x / 256)
-}
-
-fn wide(b: u8) -> u32
-    ensures { result ≡ b }
-{
-    b as u32
 }
 
 // What each byte turns the state into, as its eight bits go out.

@@ -6,5 +6,4 @@
 pub mod commands;
 pub mod crc;
 pub mod numbers;
-mod scan;
 pub mod words;

@@ -6,7 +6,9 @@ use Rattle.std.proofs.Common.{zero-add, suc-add, mul_assoc, pow-suc, div-one, di
 use Rattle.std.proofs.Math.Nat.{pow-zero, pow-succ', one-le-pow, div-div-eq-div-mul}
 use Rattle.std.proofs.Math.Arith.{mod-mul}
 use Rattle.std.proofs.lemmas.List.Edits.{sets}
-use Rattle.wire.specs.Part.{part, length-part, part-add, part-cons, sets-append}
+use Rattle.std.specs.Int.{byte_at, bytes_low_first}
+use borrow.Rule.Slice.PartMut.{put_mid}
+use Rattle.wire.specs.Part.{part, length-part, part-add, part-cons, sets-append, put_mid-sets}
 
 -- the number that bytes make, lowest byte first
 abbrev pub number : List ℕ → ℕ
@@ -62,6 +64,25 @@ bytes-part bs i n h f =
 pub number_lt : (bs : List ℕ) → Bytes bs → number bs < 256 ^ length bs
 number_lt [] h = omega arith
 number_lt (b ∷ bs) h = omega (arith, number_lt bs h.1, pow-succ' 256 (length bs))
+
+-- std's bytes of a number are these
+byte_at_is : (i v : ℕ) → byte_at i v ≡ v / 256 ^ i % 256
+byte_at_is zero v = rw (pow-zero, div-one)
+byte_at_is (suc i) v = refl
+
+low_first : (i n v : ℕ) → bytes_low_first i n v ≡ bytes n (v / 256 ^ i)
+low_first i zero v = refl
+low_first i (suc n) v =
+    let e : v / 256 ^ suc i ≡ v / 256 ^ i / 256 = rw (pow-suc, div-div-eq-div-mul) in
+    rw (byte_at_is i v, low_first (suc i) n v, e)
+
+le_bytes : (n v : ℕ) → bytes_low_first 0 n v ≡ bytes n v
+le_bytes n v = low_first 0 n v ∙ rw (pow-zero, div-one)
+
+pub put_low_first : (l new : List ℕ) (i k n v : ℕ) → new ≡ bytes_low_first 0 n v → k ≡ n → i + n ≤ length l → put_mid i k l new ≡ sets l i (bytes n v)
+put_low_first l new i k n v e f h =
+    let g : new ≡ bytes n v = e ∙ le_bytes n v in
+    rw g (put_mid-sets l (bytes n v) i k (rw length-bytes f) (rw length-bytes h))
 
 -- ---- two numbers side by side are one
 pub number-append : (xs ys : List ℕ) → number (xs ++ ys) ≡ number xs + 256 ^ length xs * number ys

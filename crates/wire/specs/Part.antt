@@ -6,6 +6,7 @@ use Rattle.std.proofs.Common.{add-zero, add-suc, suc-add, add_assoc, arith, sym,
 use Rattle.std.proofs.lemmas.List.Edits.{sets, sets-eq}
 use Rattle.std.proofs.Math.Seq.{length-sets}
 use Rattle.std.proofs.lemmas.List.{set_comm}
+use borrow.Rule.Slice.PartMut.{put_mid}
 
 -- the n elements from place i on
 abbrev pub part : List ℕ → ℕ → ℕ → List ℕ
@@ -87,6 +88,10 @@ sets-whole l vs e =
     let z : 0 + k ≡ k = omega arith in
     ap (λ (x : ℕ). get_or (sets l 0 vs) x 0) (sym z) ∙ sym (get_or-part (sets l 0 vs) 0 (length vs) k (omega arith))
     ∙ ap (λ (x : List ℕ). get_or x k 0) (part-sets l 0 vs (omega arith)))
+
+-- a part of a slice that was written
+pub put_mid-sets : (l vs : List ℕ) (i k : ℕ) → k ≡ length vs → i + length vs ≤ length l → put_mid i k l vs ≡ sets l i vs
+put_mid-sets l vs i k e h = rw (sets-eq vs l i h, drop-drop, e, append_assoc)
 
 -- ---- sets of sets
 -- a write of two parts, one after the other

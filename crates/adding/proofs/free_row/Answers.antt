@@ -1,20 +1,24 @@
 -- SPDX-License-Identifier: Apache-2.0 AND BSD-3-Clause
-use Rattle.std.proofs.Common.{◌+◌, ◌≤◌, ◌∙◌, length, arith, rules, sym}
-use Rattle.adding.specs.Grow.{free_all, free_here, free_next, free_nil}
-use Rattle.regions.specs.Table.{left_none, left_short}
+use Rattle.std.proofs.Common.{arith, inl, refl, rules, ◌∙◌}
+use Rattle.std.proofs.lemmas.Iterator.Consumers.{YieldsList-from_first}
+use Rattle.std.proofs.lemmas.Iterator.Search.{position_from_yields_List}
+use borrow.Author.Tests.{tests}
+use Rattle.regions.specs.Table.{rows_left, few_rows}
+use Rattle.adding.specs.Grow.{free_row_is, is_free}
 use Rattle.adding.proofs.free_row.Goals as goal
 
-pub loop-rows-init : goal.loop-rows-init
-loop-rows-init c = (search rules, free_all _)
+pub position-requires-clause-fits : goal.position-requires-clause-fits
+position-requires-clause-fits c = inl (omega (arith, few_rows _ _ c.of.ensures))
 
-pub returns-then-regions-at-lt3 : goal.returns-then-regions-at-lt3
-returns-then-regions-at-lt3 c = sym (c.loop-rows.invariant.1 ∙ free_nil _ _ (left_short _ _ _ c.if-regions-at-lt3.true))
+pub returns-in_err-k : goal.returns-in_err-k
+returns-in_err-k c =
+    let p = position_from_yields_List is_free c.position.new.self _ _ c.in_err-k.ensures.ran (YieldsList-from_first (λ x. x) rows_left _ refl) (λ x b q k. search (rules, tests)) in
+    c.from_residual.ensures ∙ free_row_is _ _ _ c.of.ensures p
 
-pub returns-then-regions-at-eq0 : goal.returns-then-regions-at-eq0
-returns-then-regions-at-eq0 c = let h : c.loop-rows.at + 3 ≤ length c.args.regions.now = omega arith in sym (c.loop-rows.invariant.1 ∙ free_here _ _ _ (omega arith) h c.if-regions-at-eq0.true)
-
-pub loop-rows-preserved : goal.loop-rows-preserved
-loop-rows-preserved c = let h : c.loop-rows.at + 3 ≤ length c.args.regions.now = omega arith in (search rules, c.loop-rows.invariant.1 ∙ free_next _ _ _ (omega arith) h c.if-regions-at-eq0.false)
+pub overflow_mul-result : goal.overflow_mul-result
+overflow_mul-result c = omega (arith, c.in_ok-k.ensures.bound, few_rows _ _ c.of.ensures)
 
 pub returns : goal.returns
-returns c = sym (c.loop-rows.invariant.1 ∙ free_nil _ _ (left_none _ _ _ (omega arith)))
+returns c =
+    let p = position_from_yields_List is_free c.position.new.self _ _ c.in_ok-k.ensures.ran (YieldsList-from_first (λ x. x) rows_left _ refl) (λ x b q k. search (rules, tests)) in
+    free_row_is _ _ _ c.of.ensures p

@@ -3,11 +3,11 @@ use Rattle.std.proofs.Common.{arith, sym}
 use Rattle.lent_chain.specs.Walk.{going_end, going_full, going_next}
 use Rattle.lent_chain.proofs.walk_into.Goals as goal
 
-pub loop-left-preserved : goal.loop-left-preserved
-loop-left-preserved c = going_next _ _ _ _ _ _ _ _ _ c.loop-left.invariant _ _ (sym c.in-Next.ensures) (omega arith) _ c.put_triple.ensures
+pub loop-k-preserved : goal.loop-k-preserved
+loop-k-preserved c = going_next _ _ _ _ _ _ _ c.loop-k.invariant _ _ (sym c.in-Some.ensures) (omega arith) _ c.put_triple.ensures
 
-pub returns-in-End : goal.returns-in-End
-returns-in-End c = going_end _ _ _ _ _ _ _ _ _ c.loop-left.invariant (sym c.in-End.ensures)
+pub returns-in_default : goal.returns-in_default
+returns-in_default c = going_end _ _ _ _ _ _ _ c.loop-k.invariant (sym c.in_default.ensures)
 
 pub returns : goal.returns
-returns c = going_full _ _ _ _ _ _ _ _ _ c.loop-left.invariant (omega arith)
+returns c = going_full _ _ _ _ _ _ _ c.loop-k.invariant (omega arith)

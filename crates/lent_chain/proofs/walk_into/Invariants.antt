@@ -2,8 +2,5 @@
 use Rattle.lent_chain.specs.Walk.{Going}
 use Rattle.lent_chain.proofs.walk_into.Given as goal
 
-abbrev pub invariant-loop-left : goal.invariant-loop-left
-invariant-loop-left l = Going l.regions l.mem l.initial.c l.initial.out l.c l.count l.at l.left l.out
-
-abbrev pub decreases-loop-left : goal.decreases-loop-left
-decreases-loop-left l = l.left
+abbrev pub invariant-loop-k : goal.invariant-loop-k
+invariant-loop-k l = Going l.regions l.mem l.initial.c l.initial.out l.c l.k l.out

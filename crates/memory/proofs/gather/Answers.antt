@@ -1,7 +1,7 @@
 -- SPDX-License-Identifier: Apache-2.0 AND BSD-3-Clause
 use Rattle.std.proofs.Common.{◌<◌, length, arith, refl, rules}
 use Rattle.regions.specs.Spots.{spots_none, covered_top}
-use Rattle.memory.specs.Cells.{fetched_all, fetched_next}
+use Rattle.memory.specs.Cells.{fetched_next}
 use Rattle.memory.proofs.gather.Goals as goal
 
 pub loop-k-init : goal.loop-k-init
@@ -13,6 +13,3 @@ overflow_add-a c = let l = c.loop-k in let z : l.k < length c.args.out.now = ome
 pub loop-k-preserved : goal.loop-k-preserved
 loop-k-preserved c = let l = c.loop-k in let z : l.k < length l.out = omega arith in
     (search rules, search rules, fetched_next c.args.regions.now c.args.mem.now c.args.a l.out l.k _ z c.byte_at.ensures l.invariant.2)
-
-pub returns : goal.returns
-returns c = let l = c.loop-k in fetched_all c.args.regions.now c.args.mem.now c.args.a _ l.k (length c.args.out.now) l.invariant.0 (omega arith) l.invariant.1 l.invariant.2

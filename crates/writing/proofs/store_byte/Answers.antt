@@ -2,11 +2,5 @@
 use Rattle.regions.specs.Table.{spot_found, spot_room}
 use Rattle.writing.proofs.store_byte.Goals as goal
 
-pub bounds-mem-i : goal.bounds-mem-i
-bounds-mem-i c = spot_room _ _ _ _ (spot_found _ _ _ _ _ c.find.ensures c.in-Run.is)
-
-pub returns-in-Run : goal.returns-in-Run
-returns-in-Run c = rw (spot_found _ _ _ _ _ c.find.ensures c.in-Run.is)
-
-pub returns-in-Nothing : goal.returns-in-Nothing
-returns-in-Nothing c = rw (spot_found _ _ _ _ _ c.find.ensures c.in-Nothing.is)
+pub bounds-mem-run : goal.bounds-mem-run
+bounds-mem-run c = spot_room _ _ _ _ (spot_found _ _ _ _ _ c.find.ensures c.in-Some.is)

@@ -1,14 +1,11 @@
 -- SPDX-License-Identifier: Apache-2.0 AND BSD-3-Clause
-use Rattle.std.proofs.Common.{arith, length, rules}
-use Rattle.chain.specs.Links.{below}
-use Rattle.chain.specs.Laying.{below_no, below_yes, every_end, every_no, every_on}
+use Rattle.std.proofs.Common.{◌∙◌, ltb, rules, tests}
+use Rattle.std.proofs.lemmas.Iterator.{YieldsList-from_slice}
+use Rattle.std.proofs.lemmas.Iterator.Search.{all_from_yields_List}
+use Rattle.chain.specs.Laying.{all_below-every}
 use Rattle.chain.proofs.lay.all_below.Goals as goal
 
-pub returns-then-places-k : goal.returns-then-places-k
-returns-then-places-k c = every_no (below c.args.queue_size c.args.places.now) (length c.args.places.now) c.loop-k.k c.loop-k.invariant.1 (omega arith) (below_no _ _ _ c.if-places-k.true)
-
-pub loop-k-preserved : goal.loop-k-preserved
-loop-k-preserved c = (search rules, every_on (below c.args.queue_size c.args.places.now) (length c.args.places.now) c.loop-k.k c.loop-k.invariant.1 (omega arith) (below_yes _ _ _ c.if-places-k.false))
-
 pub returns : goal.returns
-returns c = every_end (below c.args.queue_size c.args.places.now) (length c.args.places.now) c.loop-k.k c.loop-k.invariant.1 (omega arith)
+returns c =
+    all_from_yields_List (λ p. ltb p c.args.queue_size) _ _ _ c.all.ensures.ran (YieldsList-from_slice c.args.places.now cc) (λ x b q k. search (rules, tests))
+    ∙ all_below-every _ _

@@ -1,14 +1,13 @@
 -- SPDX-License-Identifier: Apache-2.0 AND BSD-3-Clause
-use Rattle.std.proofs.Common.{arith, length, rules, sym}
-use Rattle.chain.specs.Links.{fresh}
-use Rattle.chain.specs.Laying.{every_end, every_no, every_on}
+use Rattle.std.proofs.Common.{◌∙◌, arith, ap, not, sym}
+use Rattle.chain.specs.Laying.{every_no, every_on, every_yes, fresh_contains}
 use Rattle.chain.proofs.lay.all_fresh.Goals as goal
 
-pub returns-then-not-is_fresh : goal.returns-then-not-is_fresh
-returns-then-not-is_fresh c = every_no (fresh c.args.places.now) (length c.args.places.now) c.loop-k.k c.loop-k.invariant.1 (omega arith) (sym c.if-not-is_fresh.ensures)
+pub returns-then-contains : goal.returns-then-contains
+returns-then-contains c = every_no _ _ c.loop-k.k (omega arith) (fresh_contains _ _ (omega arith) ∙ ap not (sym c.if-contains.ensures.value))
 
 pub loop-k-preserved : goal.loop-k-preserved
-loop-k-preserved c = (search rules, every_on (fresh c.args.places.now) (length c.args.places.now) c.loop-k.k c.loop-k.invariant.1 (omega arith) (sym c.if-not-is_fresh.ensures))
+loop-k-preserved c = every_on _ _ c.loop-k.invariant (fresh_contains _ _ (omega arith) ∙ ap not (sym c.if-contains.ensures.value))
 
 pub returns : goal.returns
-returns c = every_end (fresh c.args.places.now) (length c.args.places.now) c.loop-k.k c.loop-k.invariant.1 (omega arith)
+returns c = every_yes _ _ (λ i h. c.loop-k.invariant i (omega arith))

@@ -1,14 +1,14 @@
 -- SPDX-License-Identifier: Apache-2.0 AND BSD-3-Clause
-use Rattle.std.proofs.Common.{arith, length, refl, rules}
-use Rattle.chain.specs.Links.{can_store}
-use Rattle.chain.specs.Laying.{can_no, can_yes, every_end, every_no, every_on}
+use Rattle.std.proofs.Common.{◌∙◌, rules, tests}
+use Rattle.std.proofs.lemmas.Iterator.{YieldsList-from_slice}
+use Rattle.std.proofs.lemmas.Iterator.Search.{all_from_yields_List}
+use Rattle.memory.specs.Access.{writable}
+use Rattle.desc.specs.Layout.{desc_addr}
+use Rattle.chain.specs.Laying.{can_store-every}
 use Rattle.chain.proofs.lay.can_store.Goals as goal
 
-pub returns-then-not-can_write : goal.returns-then-not-can_write
-returns-then-not-can_write c = every_no (can_store c.args.regions.now c.args.size c.args.desc_table c.args.places.now) (length c.args.places.now) c.loop-k.k c.loop-k.invariant.1 (omega arith) (can_no _ _ _ _ _ _ c.if-not-can_write.ensures refl)
-
-pub loop-k-preserved : goal.loop-k-preserved
-loop-k-preserved c = (search rules, every_on (can_store c.args.regions.now c.args.size c.args.desc_table c.args.places.now) (length c.args.places.now) c.loop-k.k c.loop-k.invariant.1 (omega arith) (can_yes _ _ _ _ _ _ c.if-not-can_write.ensures refl))
-
 pub returns : goal.returns
-returns c = every_end (can_store c.args.regions.now c.args.size c.args.desc_table c.args.places.now) (length c.args.places.now) c.loop-k.k c.loop-k.invariant.1 (omega arith)
+returns c =
+    all_from_yields_List (λ p. writable c.args.regions.now c.args.size (desc_addr c.args.desc_table p) 16) _ _ _ c.all.ensures.ran
+    (YieldsList-from_slice c.args.places.now cc) (λ x b q k. search (rules, tests))
+    ∙ can_store-every _ _ _ _
