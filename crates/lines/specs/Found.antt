@@ -1,6 +1,8 @@
 -- SPDX-License-Identifier: Apache-2.0 AND BSD-3-Clause
 -- What checking a line finds. Assumes nothing.
-use Rattle.std.specs.Prelude.{ℕ, ◌≤◌, ◌≡◌, Option, Some, None, Result, Ok, Err}
+use Rattle.std.specs.Prelude.{ℕ, ◌≤◌, ◌≡◌, Bool, true, false, Option, Some, None, Result, Ok, Err}
+use Rattle.script.specs.declared.commands.Command.{Command}
+use Rattle.script.specs.declared.commands.Command.TheVariants as command
 use Rattle.lines.specs.declared.state.Fault.{Fault}
 use Rattle.lines.specs.declared.checks.Work.{Work}
 use Rattle.lines.specs.declared.checks.Work.TheVariants as work
@@ -34,10 +36,35 @@ HasNoPlace (work.Used q) = Unit {0}
 HasNoPlace (work.Pass q pass) = Unit {0}
 HasNoPlace (work.Chain walked) = Unit {0}
 
+-- a command on a part of the image
+abbrev pub HasPlace : Work → Type 0
+HasPlace w = HasNoPlace w → ⊥
+
 abbrev pub NoPlace : Result (Option Ready) Fault → Type 0
 NoPlace (Err f) = Unit {0}
 NoPlace (Ok None) = Unit {0}
 NoPlace (Ok (Some r)) = HasNoPlace r.work
+
+-- the commands on a part of the image
+abbrev pub on_part : Command → Bool
+on_part command.Bytes = true
+on_part command.Fill = true
+on_part command.U16 = true
+on_part command.U32 = true
+on_part command.U64 = true
+on_part command.Desc = true
+on_part command.Dump = true
+on_part _ = false
+
+-- these commands work on a part of the image, and no other one does
+abbrev pub WorksBy : Command → Work → Type 0
+WorksBy c w = (on_part c ≡ true → HasPlace w) × (on_part c ≡ false → HasNoPlace w)
+
+-- a line works on what its command works on
+abbrev pub ByCommand : Result (Option Ready) Fault → Type 0
+ByCommand (Err f) = Unit {0}
+ByCommand (Ok None) = Unit {0}
+ByCommand (Ok (Some r)) = WorksBy r.command r.work
 
 -- ---- laws
 

@@ -1,7 +1,7 @@
 // SPDX-License-Identifier: Apache-2.0 AND BSD-3-Clause
 // A line, or its error. Every error of the language is found here, where there is neither an image nor a table to change.
 ghost use Rattle.std.specs.Prelude.{IfOk};
-ghost use Rattle.lines.specs.Found.{InImage, Inside};
+ghost use Rattle.lines.specs.Found.{ByCommand, HasPlace, InImage, Inside, WorksBy};
 
 use crate::reading::Numbers;
 use crate::state::{Fault, State};
@@ -11,11 +11,11 @@ use script::commands::Command;
 
 pub const LONGEST_LINE: usize = 4095;
 
-// A line that can be run.
-#[derive(Drop)]
-pub struct Ready {
+// A line that can be run. Its numbers are where the caller keeps them: they are too many to be handed from call to call.
+#[derive(Clone, Copy)]
+pub struct Ready<'a> {
     pub command: Command,
-    pub numbers: Numbers,
+    pub numbers: &'a Numbers,
     pub work: Work,
 }
 
@@ -36,25 +36,38 @@ pub enum Work {
     Chain(DescriptorChain),
 }
 
-// A line's command goes by its first word; a line without words is none.
-pub fn check_line(line: &[u8], size: usize, st: State) -> Result<Option<Ready>, Fault>
-    ensures { InImage size result }
+// A line's command goes by its first word; a line without words is none. What `numbers` held before is nothing to it.
+pub fn check_line<'a>(
+    line: &[u8],
+    size: usize,
+    st: State,
+    numbers: &'a mut Numbers,
+) -> Result<Option<Ready<'a>>, Fault>
+    ensures in_image { InImage size result }
+    ensures by_command { ByCommand result }
 {
     if LONGEST_LINE < line.len() {
         return Err(Fault::TooLong);
     }
     match script::words::next_word(line) {
-        Some((word, rest)) => check_command(word, rest, size, st),
+        Some((word, rest)) => check_command(word, rest, size, st, numbers),
         None => Ok(None),
     }
 }
 
-fn check_command(word: &[u8], rest: &[u8], size: usize, st: State) -> Result<Option<Ready>, Fault>
-    ensures { InImage size result }
+fn check_command<'a>(
+    word: &[u8],
+    rest: &[u8],
+    size: usize,
+    st: State,
+    numbers: &'a mut Numbers,
+) -> Result<Option<Ready<'a>>, Fault>
+    ensures in_image { InImage size result }
+    ensures by_command { ByCommand result }
 {
     let command = script::commands::command_of(word).ok_or(Fault::UnknownCommand)?;
-    let numbers = Numbers::read(rest, command)?;
-    let work = work_of(command, &numbers, size, st)?;
+    numbers.read(rest, command)?;
+    let work = work_of(command, numbers, size, st)?;
     Ok(Some(Ready {
         command,
         numbers,
@@ -64,7 +77,8 @@ fn check_command(word: &[u8], rest: &[u8], size: usize, st: State) -> Result<Opt
 
 // What a command works on: a match, since a line that was checked is data.
 fn work_of(c: Command, numbers: &Numbers, size: usize, st: State) -> Result<Work, Fault>
-    ensures { IfOk result (Inside size) }
+    ensures inside { IfOk result (Inside size) }
+    ensures by_command { IfOk result (WorksBy c) }
 {
     match c {
         Command::Memory | Command::Region | Command::Sum => Ok(Work::Whole),
@@ -117,7 +131,8 @@ fn extent(c: Command, numbers: &Numbers) -> u64 {
 
 // The part of an image of this size. The test has no sum that could pass 2^64.
 fn place(size: usize, offset: u64, count: u64) -> Result<Work, Fault>
-    ensures { IfOk result (Inside size) }
+    ensures inside { IfOk result (Inside size) }
+    ensures part { IfOk result HasPlace }
 {
     let all = size as u64;
     if all < offset {

@@ -1,6 +1,7 @@
 // SPDX-License-Identifier: Apache-2.0 AND BSD-3-Clause
 // The words that each command takes, in tables that are matches.
-ghost use Rattle.std.specs.Prelude.{◌≤◌, length};
+ghost use Rattle.std.specs.Prelude.{◌≡◌, ◌≤◌, length};
+ghost use Rattle.lines.specs.Forms.{kinds_of, most_of};
 
 use script::commands::Command;
 
@@ -21,7 +22,8 @@ pub enum Kind {
 
 // The numbers that a command takes. `bytes` takes more of its last kind, up to most_of.
 pub fn kinds_of(c: Command) -> &'static [Kind]
-    ensures { length result.now ≤ 65 }
+    ensures kinds { result.now ≡ kinds_of c }
+    ensures room { length result.now ≤ 65 }
 {
     match c {
         Command::Memory => &[Kind::U64],
@@ -44,7 +46,8 @@ pub fn kinds_of(c: Command) -> &'static [Kind]
 
 // How many numbers a command takes at most.
 pub fn most_of(c: Command) -> usize
-    ensures { result ≤ 65 }
+    ensures most { result ≡ most_of c }
+    ensures room { result ≤ 65 }
 {
     match c {
         Command::Bytes => 65,

@@ -15,7 +15,7 @@ pub fn make(ready: &Ready, st: State) -> Result<Done, Error> {
 
 // The setters and `reset`.
 pub fn configure(ready: &Ready, q: Queue, st: State) -> Result<Done, Error> {
-    let n = &ready.numbers;
+    let n = ready.numbers;
     let changed = match ready.command {
         Command::Size => q.set_size(n.u16(0))?,
         Command::Table => q.set_desc_table_address(n.half(0), n.half(1))?,
@@ -78,7 +78,7 @@ pub fn give(
     image: &mut [u8],
     table: &[u64],
 ) -> Result<Done, Error> {
-    let n = &ready.numbers;
+    let n = ready.numbers;
     match ready.command {
         Command::Put => {
             let put = q.add_used(table, image, n.u16(0), n.u32(1))?;

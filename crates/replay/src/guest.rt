@@ -18,7 +18,7 @@ pub fn on_whole(ready: &Ready, size: usize, st: State, space: &mut [u8], table: 
 {
     match ready.command {
         Command::Memory => memory(ready.numbers.get(0), st, space, table),
-        Command::Region => region(&ready.numbers, size, st, table),
+        Command::Region => region(ready.numbers, size, st, table),
         _ => st.answers(Answer::Sum(script::crc::crc32(&space[..size]))),
     }
 }
@@ -76,7 +76,7 @@ pub fn on_place(ready: &Ready, start: usize, end: usize, space: &mut [u8]) -> An
 {
     match ready.command {
         Command::Dump => Answer::Bytes(start, end),
-        _ => on_part(ready.command, &ready.numbers, &mut space[start..end]),
+        _ => on_part(ready.command, ready.numbers, &mut space[start..end]),
     }
 }
 

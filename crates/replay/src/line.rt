@@ -7,6 +7,7 @@ ghost use Rattle.replay.specs.Outcome.{Kept};
 use crate::{chains, device, guest};
 use lines::checks;
 use lines::checks::{Ready, Work};
+use lines::reading::Numbers;
 use lines::state::{Answer, Done, Fault, State};
 use queue::Error;
 
@@ -22,7 +23,8 @@ pub fn run_line(
 {
     // An image ends where the space does, at the latest: so its size goes beside the state, whose own may say more.
     let size = st.size.min(space.len());
-    match checks::check_line(line, size, st)? {
+    let mut numbers = Numbers::new();
+    match checks::check_line(line, size, st, &mut numbers)? {
         Some(ready) => {
             let done = run(&ready, size, st, space, table);
             Ok(Some(done.unwrap_or_else(|e| st.answers(Answer::RefusedFor(e)))))
