@@ -1,11 +1,12 @@
 -- SPDX-License-Identifier: Apache-2.0 AND BSD-3-Clause
 -- What the words of a line are, said of its bytes. Assumes nothing.
-use Rattle.std.specs.Prelude.{ℕ, zero, suc, ◌+◌, ◌-◌, ◌≤◌, ◌<◌, ◌≡◌, refl, ◌⊎◌, List, [], ◌∷◌, length, get_or, drop, Option, Some, None}
-use Rattle.std.proofs.Common.{sym, ap, ◌∙◌, inl, inr, add-zero, arith, length-drop, get_or-drop}
-use Rattle.std.proofs.lemmas.Option.{some_pair_parts}
+use Rattle.std.specs.Prelude.{ℕ, zero, suc, ◌+◌, ◌-◌, ◌≤◌, ◌<◌, ◌≡◌, refl, ◌⊎◌, List, [], ◌∷◌, length, get_or, take, drop, Option, Some, None}
+use Rattle.std.proofs.Common.{sym, ap, ap₂, ◌∙◌, inl, inr, add-zero, arith, length-drop, length-take-le, get_or-drop}
+use Rattle.std.proofs.lemmas.List.{take_rest}
+use Rattle.std.proofs.lemmas.Option.{none-some, some_pair_parts}
 use Rattle.script.specs.declared.words.Kind.{Kind}
 use Rattle.script.specs.declared.words.Kind.TheVariants.{Blank, Comment, Letter}
-use Rattle.script.specs.Words.{kind_of, end_by, word_end, word_end_run, start_by, first_word, word_from}
+use Rattle.script.specs.Words.{kind_of, end_by, word_end, word_end_run, start_by, first_word, word_from, word_bytes, word_bytes-part, parts, next_word}
 
 -- the word from start up to end is the first one from a place on: before it stand blanks alone, and no `#`; it has at least one
 -- byte, all of its bytes are letters, and it ends at the line's end or before a byte that is none
@@ -225,3 +226,53 @@ first_word_moved i j (b ∷ rest) =
 pub word_from_rest : (line : List ℕ) (from : ℕ) → word_from line from ≡ moved from (word_from (drop from line) 0)
 unfolding word_from
 word_from_rest line from = rw add-zero at (first_word_moved from 0 (drop from line))
+
+-- ---- a word and what follows it, as places
+
+-- the word goes from one place up to another, and both are found again by what follows the word
+record Placed (line word after : List ℕ) (start end : ℕ) : Type 0 where
+  first : start + length word ≡ end
+  last : end + length after ≡ length line
+
+placed : (line word after : List ℕ) (start end : ℕ) → word_from line 0 ≡ Some (start, end) → parts line (Some (start, end)) ≡ Some (word, after)
+    → Placed line word after start end
+placed line word after start end e h =
+    let w = word_from_word line 0 start end e in
+    let some = w.some in
+    let within = w.within in
+    let same = some_pair_parts (word_bytes line start end) word (drop end line) after h in
+    let cut : word ≡ take (end - start) (drop start line) = sym same.0 ∙ word_bytes-part line start end within in
+    let room : end - start ≤ length (drop start line) = omega (arith, length-drop start line) in
+    let size : length word ≡ end - start = ap length cut ∙ length-take-le (end - start) (drop start line) room in
+    let rest : length after ≡ length line - end = ap length (sym same.1) ∙ length-drop end line in
+    record { first = omega arith; last = omega arith }
+
+pub next_word_within : (line word after : List ℕ) → next_word line ≡ Some (word, after) → length word + length after ≤ length line
+unfolding next_word
+next_word_within line word after = told (word_from line 0) refl
+  where
+    told : (o : Option (ℕ × ℕ)) → word_from line 0 ≡ o → parts line o ≡ Some (word, after) → length word + length after ≤ length line
+    told None e h = absurd (none-some (word, after) h)
+    told (Some p) e h = let w = placed line word after p.0 p.1 e h in omega (arith, w.first, w.last)
+
+-- the places of a word in a line that ends with the word and with what follows it
+abbrev pub placed_before : List ℕ → Option (List ℕ × List ℕ) → Option (ℕ × ℕ)
+placed_before line None = None
+placed_before line (Some p) = Some (length line - length p.1 - length p.0, length line - length p.1)
+
+-- the first word of what follows a place is the line's first word from that place on
+pub word_from_next : (line : List ℕ) (from : ℕ) → from ≤ length line
+    → word_from line from ≡ placed_before line (next_word (take (length line - from) (drop from line)))
+unfolding next_word
+word_from_next line from h = rw (take_rest, word_from_rest line from) (told (word_from (drop from line) 0) refl)
+  where
+    told : (o : Option (ℕ × ℕ)) → word_from (drop from line) 0 ≡ o → moved from o ≡ placed_before line (parts (drop from line) o)
+    told None e = refl
+    told (Some p) e =
+        let w = placed (drop from line) (word_bytes (drop from line) p.0 p.1) (drop p.1 (drop from line)) p.0 p.1 e refl in
+        let first = w.first in
+        let last = w.last in
+        let size = length-drop from line in
+        let start : from + p.0 ≡ length line - length (drop p.1 (drop from line)) - length (word_bytes (drop from line) p.0 p.1) = omega arith in
+        let end : from + p.1 ≡ length line - length (drop p.1 (drop from line)) = omega arith in
+        ap₂ (λ (x y : ℕ). Some (x, y)) start end

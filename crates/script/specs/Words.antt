@@ -89,6 +89,10 @@ pub first_word_at : (i : ℕ) (l : List ℕ) (k : Kind) → i < length l → k �
 unfolding first_word
 first_word_at i l k h e = rw (e, add-one, drop-cons l i 0)
 
+pub word_from_past : (line : List ℕ) (from : ℕ) → length line < from → None ≡ word_from line from
+unfolding word_from
+word_from_past line from h = let past : length line ≤ from = omega arith in sym (first_word_past from line past)
+
 pub word_bytes_past : (l : List ℕ) (start end : ℕ) → length l < end → word_bytes l start end ≡ []
 unfolding word_bytes
 word_bytes_past l start end h = rw (lt-leb end (length l) h)

@@ -6,4 +6,5 @@
 pub mod commands;
 pub mod crc;
 pub mod numbers;
+pub mod places;
 pub mod words;
