@@ -6,7 +6,7 @@ use Rattle.adding.specs.declared.AddError.TheVariants.{Full, Empty, PastTop, Pas
 use Rattle.queue.specs.declared.Error.{Error}
 use Rattle.queue.specs.declared.Error.TheVariants.{InvalidMaxSize, InvalidSize, InvalidDescTableAlign, InvalidAvailRingAlign, InvalidUsedRingAlign, QueueNotReady, InvalidAvailRingIndex, InvalidDescriptorIndex, GuestMemory}
 use Rattle.lent.specs.declared.refusal.Refusal.{Refusal}
-use Rattle.lent.specs.declared.refusal.Refusal.TheVariants.{StateShort, StateField, ChainShort, ChainField, NoRoom, Call}
+use Rattle.lent.specs.declared.refusal.Refusal.TheVariants.{StateShort, StateField, ChainShort, ChainField, NoRoom, Call, Other}
 
 abbrev pub error_code : Error → ℕ
 error_code InvalidMaxSize = 65539
@@ -26,6 +26,7 @@ refusal_code ChainShort = 65549
 refusal_code ChainField = 65550
 refusal_code NoRoom = 65551
 refusal_code (Call e) = error_code e
+refusal_code (Other n) = n
 
 -- ---- a region
 abbrev pub adding_code : Adding → ℕ

@@ -5,9 +5,9 @@
 --   65,536          there is none
 --   above           a refusal: what the caller lent is as it was, but for a put that stands where its question can't be answered
 --                   (65,548), and for asking, which keeps a write that it made before the read that failed
-use Rattle.std.specs.Prelude.{ℕ, max, ◌≡◌, Bool, false, not, List, [], ◌∷◌, length, get_or, eqb, leb, Option, Some, None, Result, Ok, Err, ◌≤◌, ◌<◌, refl, true}
+use Rattle.std.specs.Prelude.{ℕ, max, ◌≡◌, Bool, false, not, List, [], ◌∷◌, length, get_or, eqb, leb, Option, Some, None, Result, Ok, Err, ◌⊎◌, ◌≤◌, ◌<◌, refl, true}
 use Rattle.std.proofs.lemmas.List.Edits.{sets}
-use Rattle.std.proofs.Common.{◌∙◌, true≢false}
+use Rattle.std.proofs.Common.{◌∙◌, inl, inr, true≢false}
 use Rattle.std.proofs.Math.Path.{sym}
 use borrow.Author.Tests.{leb-true, le-leb, lt-leb}
 use Rattle.regions.specs.Table.{pick}
@@ -141,6 +141,11 @@ module _ (ws : List ℕ) where
     module _ (c : ℕ) where
       pub settled_same : x ≡ Same c → Settled ws x c ws
       settled_same e = rw e (record { answer = refl; state = refl })
+
+      -- a number alone, be it of an answer or of a refusal
+      pub settled_alone : (x ≡ Same c) ⊎ ((e : Refusal) × (x ≡ Err e) × (refusal_code e ≡ c)) → Settled ws x c ws
+      settled_alone (inl e) = settled_same e
+      settled_alone (inr w) = rw (sym w.2) (settled_refused w.0 w.1)
 
       module _ (q : Queue) (e : x ≡ Now c q) where
         pub settled_now : 10 ≤ length ws → (ws' : List ℕ) → ws' ≡ sets ws 0 (words_of q) → Settled ws x c ws'

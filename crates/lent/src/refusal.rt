@@ -1,5 +1,5 @@
 // SPDX-License-Identifier: Apache-2.0 AND BSD-3-Clause
-// Why a call is refused, and the number of each reason (include/queueledger.h has them all).
+// Why a call is refused, and the number of each reason (include/queueledger.h has those that the library gives itself).
 ghost use Rattle.std.specs.Prelude.{◌≡◌};
 ghost use Rattle.lent.specs.Refusal.{error_code, refusal_code, adding_code};
 ghost use Rattle.lent.specs.declared.refusal.Refusal.TheVariants.{Call};
@@ -19,6 +19,8 @@ pub enum Refusal {
     NoRoom,
     // The call's own reason.
     Call(Error),
+    // A reason of the caller's own, by its number: it is answered as it is.
+    Other(u32),
 }
 
 impl From<Error> for Refusal {
@@ -57,6 +59,7 @@ impl From<Refusal> for u32 {
             Refusal::ChainField => 65550,
             Refusal::NoRoom => 65551,
             Refusal::Call(why) => error_code(why),
+            Refusal::Other(number) => number,
         }
     }
 }

@@ -1,7 +1,7 @@
 -- SPDX-License-Identifier: Apache-2.0 AND BSD-3-Clause
 -- A chain in six words that the caller lends, and the descriptors of a walk in an array: address, length and flags of each.
 use Prim.Native.Nat.{ℕ, zero, suc, ◌+◌, ◌-◌, ◌*◌, ◌/◌, ◌≤◌, ◌<◌, max}
-use Rattle.std.proofs.Common.{arith, ap, ◌∙◌}
+use Rattle.std.proofs.Common.{arith, ap, subst, ◌∙◌}
 use Rattle.std.proofs.Math.Nat.{sub-zero}
 use Rattle.std.specs.Prelude.{◌≡◌, refl, Bool, true, false, Option, Some, None, Result, Ok, Err, List, [], ◌∷◌, ◌++◌, length, get_or, leb}
 use Rattle.std.proofs.Math.Path.{sym}
@@ -243,42 +243,47 @@ module _ (t : Table) (m : List ℕ) (c : DescriptorChain) where
   walk_full = (refl, refl)
 
 -- so many descriptors were seen, and stand in the array
-pub record Going (t : Table) (m : List ℕ) (start : DescriptorChain) (out₀ : List ℕ) (c : DescriptorChain) (k : ℕ) (out : List ℕ) : Type 0 where
+pub record Going (t : Table) (m : List ℕ) (start : DescriptorChain) (out₀ : List ℕ) (c : DescriptorChain) (count at left : ℕ) (out : List ℕ) : Type 0 where
   pub seen : List Descriptor
-  pub walked : walk (room out₀) t m start ≡ seen ++ walk (room out₀ - k) t m c
-  pub onward : rest (room out₀) t m start ≡ rest (room out₀ - k) t m c
-  pub counted : length seen ≡ k
+  pub walked : walk (room out₀) t m start ≡ seen ++ walk left t m c
+  pub onward : rest (room out₀) t m start ≡ rest left t m c
+  pub counted : length seen ≡ count
   pub array : out ≡ sets out₀ 0 (triples seen)
   pub same : length out ≡ length out₀
-  pub space : k ≤ room out₀
-  pub ration : k + c.ttl ≤ start.ttl
+  pub place : at ≡ 3 * count
+  pub space : at + 3 * left ≤ length out₀
+  pub ration : count + c.ttl ≤ start.ttl
 
-pub going_start : (t : Table) (m : List ℕ) (c : DescriptorChain) (out : List ℕ) → Going t m c out c 0 out
+pub going_start : (t : Table) (m : List ℕ) (c : DescriptorChain) (out : List ℕ) → Going t m c out c 0 0 (room out) out
 going_start t m c out =
-    record { seen = []; walked = rw sub-zero; onward = rw sub-zero; counted = refl; array = refl; same = refl; space = omega arith; ration = omega arith }
+    record { seen = []; walked = refl; onward = refl; counted = refl; array = refl; same = refl; place = refl; space = omega arith; ration = omega arith }
 
-module _ (t : Table) (m : List ℕ) (start : DescriptorChain) (out₀ : List ℕ) (c : DescriptorChain) (k : ℕ) (out : List ℕ) (g : Going t m start out₀ c k out) where
-  pub going_next : (d : Descriptor) (r : DescriptorChain) → step_of t m c ≡ Some (d, r) → k < room out₀ → (out' : List ℕ) → out' ≡ sets out (3 * k) (triple d)
-      → Going t m start out₀ r (k + 1) out'
+module _ (t : Table) (m : List ℕ) (start : DescriptorChain) (out₀ : List ℕ) (c : DescriptorChain) (count at left : ℕ) (out : List ℕ)
+    (g : Going t m start out₀ c count at left out) where
+  pub going_next : (d : Descriptor) (r : DescriptorChain) → step_of t m c ≡ Some (d, r) → 0 < left → (out' : List ℕ) → out' ≡ sets out at (triple d)
+      → Going t m start out₀ r (count + 1) (at + 3) (left - 1) out'
   going_next d r e h out' f =
-      let l : room out₀ - k ≡ suc (room out₀ - (k + 1)) = omega arith in
-      let w = walk_more t m c (room out₀ - (k + 1)) d r e in
+      let l : left ≡ suc (left - 1) = omega arith in
+      let w = walk_more t m c (left - 1) d r e in
+      let p = g.place in
+      let s = g.space in
       let n = g.counted in
       let x = length_more g.seen d in
-      let z : 3 * k ≡ 0 + length (triples g.seen) = omega (arith, length-triples g.seen, n) in
+      let z : at ≡ 0 + length (triples g.seen) = omega (arith, length-triples g.seen, p, n) in
       record {
         seen = g.seen ++ (d ∷ []);
-        walked = g.walked ∙ ap (λ (j : ℕ). g.seen ++ walk j t m c) l ∙ ap (λ (ds : List Descriptor). g.seen ++ ds) w.0 ∙ one_more g.seen d (walk (room out₀ - (k + 1)) t m r);
-        onward = g.onward ∙ ap (λ (j : ℕ). rest j t m c) l ∙ w.1;
+        walked = g.walked ∙ ap (λ (k : ℕ). g.seen ++ walk k t m c) l ∙ ap (λ (ds : List Descriptor). g.seen ++ ds) w.0 ∙ one_more g.seen d (walk (left - 1) t m r);
+        onward = g.onward ∙ ap (λ (k : ℕ). rest k t m c) l ∙ w.1;
         counted = omega arith;
-        array = f ∙ ap (λ (o : List ℕ). sets o (3 * k) (triple d)) g.array ∙ ap (λ (i : ℕ). sets (sets out₀ 0 (triples g.seen)) i (triple d)) z
+        array = f ∙ ap (λ (o : List ℕ). sets o at (triple d)) g.array ∙ ap (λ (i : ℕ). sets (sets out₀ 0 (triples g.seen)) i (triple d)) z
             ∙ sym (sets-append out₀ 0 (triples g.seen) (triple d)) ∙ ap (sets out₀ 0) (sym (triples_more g.seen d));
-        same = ap length f ∙ length-sets out (3 * k) (triple d) ∙ g.same;
+        same = ap length f ∙ length-sets out at (triple d) ∙ g.same;
+        place = omega arith;
         space = omega arith;
         ration = let y = (step_falls t m c d r e).ration in let v = g.ration in omega arith;
       }
 
-  going_done : (walk (room out₀ - k) t m c ≡ []) × (rest (room out₀ - k) t m c ≡ c) → Filled t m start out₀ (record { count = k; chain = c }) out
+  going_done : (walk left t m c ≡ []) × (rest left t m c ≡ c) → Filled t m start out₀ (record { count = count; chain = c }) out
   going_done w =
       let v : walk (room out₀) t m start ≡ g.seen = g.walked ∙ ap (λ (ds : List Descriptor). g.seen ++ ds) w.0 ∙ append_none g.seen in
       record {
@@ -287,12 +292,36 @@ module _ (t : Table) (m : List ℕ) (start : DescriptorChain) (out₀ : List ℕ
         array = g.array ∙ sym (ap (λ (ds : List Descriptor). sets out₀ 0 (triples ds)) v);
       }
 
-  pub going_end : step_of t m c ≡ None → Filled t m start out₀ (record { count = k; chain = c }) out
-  going_end e = going_done (walk_over t m c (room out₀ - k) e)
+  pub going_end : step_of t m c ≡ None → Filled t m start out₀ (record { count = count; chain = c }) out
+  going_end e = going_done (walk_over t m c left e)
 
-  pub going_full : room out₀ ≤ k → Filled t m start out₀ (record { count = room out₀; chain = c }) out
-  going_full h =
-      let z : room out₀ - k ≡ 0 = omega arith in
-      let e : k ≡ room out₀ = omega (arith, g.space) in
-      let w = going_done (rw z (walk_full t m c)) in
+  pub going_full : left ≤ 0 → Filled t m start out₀ (record { count = count; chain = c }) out
+  going_full h = let z : left ≡ 0 = omega arith in going_done (rw z (walk_full t m c))
+
+-- the same by rows: k of them are filled, and the others are left
+pub rows_start : (t : Table) (m : List ℕ) (c : DescriptorChain) (out : List ℕ) → Going t m c out c 0 (3 * 0) (room out - 0) out
+rows_start t m c out = rw sub-zero (going_start t m c out)
+
+module _ (t : Table) (m : List ℕ) (start : DescriptorChain) (out₀ : List ℕ) (c : DescriptorChain) (k : ℕ) (out : List ℕ)
+    (g : Going t m start out₀ c k (3 * k) (room out₀ - k) out) where
+  pub rows_space : k ≤ room out₀
+  rows_space = omega (arith, g.space)
+
+  pub rows_next : (d : Descriptor) (r : DescriptorChain) → step_of t m c ≡ Some (d, r) → k < room out₀ → (out' : List ℕ) → out' ≡ sets out (3 * k) (triple d)
+      → Going t m start out₀ r (k + 1) (3 * (k + 1)) (room out₀ - (k + 1)) out'
+  rows_next d r e h out' f =
+      let P : ℕ → Type 0 = λ i. Going t m start out₀ r (k + 1) i (room out₀ - (k + 1)) out' in
+      let Q : ℕ → Type 0 = λ j. Going t m start out₀ r (k + 1) (3 * k + 3) j out' in
+      let x = going_next t m start out₀ c k (3 * k) (room out₀ - k) out g d r e (omega arith) out' f in
+      let a : 3 * k + 3 ≡ 3 * (k + 1) = omega arith in
+      let l : room out₀ - k - 1 ≡ room out₀ - (k + 1) = omega arith in
+      subst P a (subst Q l x)
+
+  pub rows_end : step_of t m c ≡ None → Filled t m start out₀ (record { count = k; chain = c }) out
+  rows_end = going_end t m start out₀ c k (3 * k) (room out₀ - k) out g
+
+  pub rows_full : room out₀ ≤ k → Filled t m start out₀ (record { count = room out₀; chain = c }) out
+  rows_full h =
+      let e : k ≡ room out₀ = omega (arith, rows_space) in
+      let w = going_full t m start out₀ c k (3 * k) (room out₀ - k) out g (omega arith) in
       record { count = sym e ∙ w.count; chain = w.chain; array = w.array }
