@@ -70,8 +70,8 @@ module _ (p : ℕ → Bool) where
   on' k i false e l f h = let z : i ≡ k = omega (arith, ltb-false i k e) in rw z h
 
   -- for a loop over the places: p is true of one more; it found one that p is false of, or none
-  pub every_on : (k : ℕ) → ((j : ℕ) → j < k → p j ≡ true) → p k ≡ true → (i : ℕ) → i < k + 1 → p i ≡ true
-  every_on k f h i l = on' k i (ltb i k) refl l f h
+  pub every_below : (k : ℕ) → ((j : ℕ) → j < k → p j ≡ true) → p k ≡ true → (i : ℕ) → i < k + 1 → p i ≡ true
+  every_below k f h i l = on' k i (ltb i k) refl l f h
 
   pub every_no : (n i : ℕ) → i < n → p i ≡ false → false ≡ every p n 0
   every_no n i l h = no' n i (every p n 0) refl l h
@@ -88,8 +88,8 @@ module _ (p : ℕ → Bool) where
   every_begin n = rw sub-zero
 
   module _ (n k : ℕ) (inv : every p (n - k) k ≡ every p n 0) where
-    pub every_left : k < n → p k ≡ true → every p (n - (k + 1)) (k + 1) ≡ every p n 0
-    every_left h e = sym (every-step n k h ∙ rw e) ∙ inv
+    pub every_on : k < n → p k ≡ true → every p (n - (k + 1)) (k + 1) ≡ every p n 0
+    every_on h e = sym (every-step n k h ∙ rw e) ∙ inv
 
     pub every_end : n ≤ k → true ≡ every p n 0
     unfolding every

@@ -141,15 +141,23 @@ unfolding is_power power_to
 power_zero n e = rw e
 
 -- ---- good_size
--- for the proof of `good_size`
-module _ (n max : ℕ) (l : n < 65536) where
-  pub good_power : (count_ones n == 1) ≡ true → nat_le n max ≡ good_size n max
+-- by any test that decides whether n is a power of two
+module _ (n max : ℕ) (b : Bool) (e : b ≡ is_power n) where
+  pub good_power : b ≡ true → nat_le n max ≡ good_size n max
   unfolding good_size
-  good_power e = rw (sym (one_bit n l) ∙ e)
+  good_power f = rw (← e, f)
 
-  pub good_other : (count_ones n == 1) ≡ false → false ≡ good_size n max
+  pub good_other : b ≡ false → false ≡ good_size n max
   unfolding good_size
-  good_other e = rw (sym (one_bit n l) ∙ e)
+  good_other f = rw (← e, f)
+
+-- for the proof of `good_size`: by std's test
+module _ (n max : ℕ) (l : n < 65536) where
+  pub good_one_bit : (count_ones n == 1) ≡ true → nat_le n max ≡ good_size n max
+  good_one_bit e = good_power n max _ (one_bit n l) e
+
+  pub good_other_bits : (count_ones n == 1) ≡ false → false ≡ good_size n max
+  good_other_bits e = good_other n max _ (one_bit n l) e
 
 -- a good size is a power of two up to the largest
 good' : (n max : ℕ) (b : Bool) → is_power n ≡ b → pick b (nat_le n max) false ≡ true → Power n × (n ≤ max)

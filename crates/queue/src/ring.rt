@@ -4,7 +4,7 @@ ghost use Rattle.std.specs.Prelude.{◌≡◌, ◌+◌, ◌*◌, ◌%◌};
 ghost use Rattle.queue.specs.Size.{good_size};
 
 // Whether n can be the size of a queue whose largest size is max.
-#[tactic(auto, using(crate::specs::Size::good_power, crate::specs::Size::good_other))]
+#[tactic(auto, using(crate::specs::Size::good_one_bit, crate::specs::Size::good_other_bits))]
 pub fn good_size(n: u16, max: u16) -> bool
     ensures { result ≡ good_size n max }
 {
